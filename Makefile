@@ -1,0 +1,4 @@
+# make test: the gate.
+.PHONY: test
+test:
+	.ci/run

@@ -1,0 +1,162 @@
+-- The seven calls (01, "The call" and "Refused, in checking order"): each outcome, on whatever it is handed.
+use Rattle.definition.specs.Text.{ℕ, _-_, Bool, true, false, not, _||_, List, [], _∷_, _++_, eqb, ltb, length, replicate, if_then_else_}
+use Rattle.definition.specs.Utf8.{utf8}
+use Rattle.definition.specs.SyntaxKind.{Kind}
+use Rattle.definition.specs.Unescaped.{unescaped}
+use Rattle.definition.specs.LineMap.{line-starts, LineCol, get-line-and-col, line-table}
+use Rattle.definition.specs.Glue.{tokens, token-numbers, pasted-kind}
+use Rattle.definition.specs.Tree.{Entry, entries, entry-numbers, body-concats}
+use Rattle.definition.specs.Error.{Err, error-numbers}
+use Rattle.definition.specs.Syntax.{parse, parse-define-body}
+
+abbrev pub longest-source : ℕ
+longest-source = 16_777_216
+
+abbrev pub most-concats : ℕ
+most-concats = 256
+
+-- A refusal: its number, and whether its condition holds.
+pub record Check : Type 0 where
+  pub number : ℕ
+  pub fails : Bool
+
+-- A number is given if its condition holds and no earlier one of the call does.
+unfoldable pub refusal : List Check → ℕ
+refusal [] = 0
+refusal (c ∷ cs) = if c .fails then c .number else refusal cs
+
+-- Whether some body holds too many ##.
+unfoldable pub too-many : List ℕ → Bool
+too-many [] = false
+too-many (n ∷ ns) = ltb most-concats n || too-many ns
+
+-- The nine refusals.
+abbrev pub too-long : List ℕ → Check
+too-long src = record { number = 1; fails = ltb longest-source (length src) }
+
+abbrev pub not-utf8 : List ℕ → Check
+not-utf8 src = record { number = 2; fails = not (utf8 src) }
+
+abbrev pub too-many-concats : List ℕ → Check
+too-many-concats counts = record { number = 3; fails = too-many counts }
+
+-- 4, 5, 6 and 8: the numbers don't fit a table of that length.
+abbrev pub short-table : ℕ → List ℕ → ℕ → Check
+short-table number numbers room = record { number = number; fails = ltb room (length numbers) }
+
+abbrev pub no-line-table : List ℕ → Check
+no-line-table lines = record { number = 7; fails = not (line-table lines) }
+
+abbrev pub no-kind : ℕ → Check
+no-kind k = record { number = 9; fails = eqb k 0 || eqb k Kind.LINECONT || ltb Kind.ROOT k }
+
+-- What a call leaves of a count and in a table: the numbers and then 0, or zeros alone after a refusal.
+abbrev pub counted : ℕ → ℕ → ℕ
+counted refused n = if eqb refused 0 then n else 0
+
+unfoldable pub padded : List ℕ → ℕ → List ℕ
+padded numbers room = numbers ++ replicate (room - length numbers) 0
+
+unfoldable pub filled : ℕ → List ℕ → ℕ → List ℕ
+filled refused numbers room = if eqb refused 0 then padded numbers room else replicate room 0
+
+-- The full reading of a source: its entries, errors and lines, and how many ## each body holds.
+pub record Full : Type 0 where
+  pub entry-list : List Entry
+  pub error-list : List Err
+  pub lines : List ℕ
+  pub concats : List ℕ
+
+unfoldable pub full-reading : List ℕ → Full
+full-reading src = let got = parse src in
+    record { entry-list = entries 0 0 (got .tree); error-list = got .errs; lines = line-starts src; concats = body-concats (got .tree) }
+
+abbrev pub entries-of : Full → List ℕ
+entries-of f = entry-numbers (f .entry-list)
+
+abbrev pub errors-of : Full → List ℕ
+errors-of f = error-numbers (f .lines) (f .error-list)
+
+-- Reading a source, with three tables of these lengths.
+pub record Reading : Type 0 where
+  pub refused : ℕ
+  pub entry-count : ℕ
+  pub error-count : ℕ
+  pub line-count : ℕ
+  pub entry-table : List ℕ
+  pub error-table : List ℕ
+  pub line-table : List ℕ
+
+abbrev pub reading-checks : List ℕ → Full → ℕ → ℕ → ℕ → List Check
+reading-checks src f entry-room error-room line-room =
+    too-long src ∷ not-utf8 src ∷ too-many-concats (f .concats) ∷
+    short-table 4 (entries-of f) entry-room ∷ short-table 5 (errors-of f) error-room ∷ short-table 6 (f .lines) line-room ∷ []
+
+unfoldable pub outcome : ℕ → Full → ℕ → ℕ → ℕ → Reading
+outcome r f entry-room error-room line-room = record {
+  refused = r;
+  entry-count = counted r (length (f .entry-list));
+  error-count = counted r (length (f .error-list));
+  line-count = counted r (length (f .lines));
+  entry-table = filled r (entries-of f) entry-room;
+  error-table = filled r (errors-of f) error-room;
+  line-table = filled r (f .lines) line-room;
+}
+
+unfoldable pub reading : List ℕ → ℕ → ℕ → ℕ → Reading
+reading src entry-room error-room line-room =
+    let f = full-reading src in
+    outcome (refusal (reading-checks src f entry-room error-room line-room)) f entry-room error-room line-room
+
+-- A call that fills one table.
+pub record Filled : Type 0 where
+  pub refused : ℕ
+  pub count : ℕ
+  pub table : List ℕ
+
+abbrev pub fills : ℕ → ℕ → List ℕ → ℕ → Filled
+fills r n numbers room = record { refused = r; count = counted r n; table = filled r numbers room }
+
+unfoldable pub reading-body : List ℕ → ℕ → Filled
+reading-body src room =
+    let tree = parse-define-body src in
+    let es = entries 0 0 tree in
+    let ns = entry-numbers es in
+    fills (refusal (too-long src ∷ not-utf8 src ∷ too-many-concats (body-concats tree) ∷ short-table 4 ns room ∷ [])) (length es) ns room
+
+unfoldable pub listing-tokens : List ℕ → ℕ → Filled
+listing-tokens src room =
+    let ts = tokens false src in
+    let ns = token-numbers 0 ts in
+    fills (refusal (too-long src ∷ not-utf8 src ∷ short-table 4 ns room ∷ [])) (length ts) ns room
+
+unfoldable pub building-lines : List ℕ → ℕ → Filled
+building-lines src room =
+    let ns = line-starts src in
+    fills (refusal (too-long src ∷ not-utf8 src ∷ short-table 6 ns room ∷ [])) (length ns) ns room
+
+unfoldable pub unescaping : List ℕ → ℕ → Filled
+unescaping src room =
+    let ns = unescaped src in
+    fills (refusal (too-long src ∷ not-utf8 src ∷ short-table 8 ns room ∷ [])) (length ns) ns room
+
+-- Looking up an offset, and pasting two kinds.
+pub record Looked : Type 0 where
+  pub refused : ℕ
+  pub line : ℕ
+  pub column : ℕ
+
+unfoldable pub looking-up : List ℕ → ℕ → Looked
+looking-up lines offset =
+    let r = refusal (no-line-table lines ∷ []) in
+    let at = get-line-and-col lines offset in
+    record { refused = r; line = counted r (at .line); column = counted r (at .column) }
+
+pub record Pasted : Type 0 where
+  pub refused : ℕ
+  pub kind : ℕ
+
+unfoldable pub pasting : ℕ → ℕ → Pasted
+pasting lhs rhs =
+    let r = refusal (no-kind lhs ∷ no-kind rhs ∷ []) in
+    record { refused = r; kind = counted r (pasted-kind lhs rhs) }

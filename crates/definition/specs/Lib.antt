@@ -1,0 +1,16 @@
+pub mod Text
+pub mod Utf8
+pub mod SyntaxKind
+pub mod Runs
+pub mod Newline
+pub mod LineMap
+pub mod Unescaped
+pub mod Pre
+pub mod Glue
+pub mod Tree
+pub mod Error
+pub mod Parser
+pub mod Syntax
+pub mod Grammar
+pub mod Calls
+pub mod Listed
