@@ -1,0 +1,26 @@
+-- The tokens of a source join to it.
+use Prim.Native.Nat.{ℕ}
+use mathlib.Core.Path.{_≡_, refl, ap, sym, _∙_}
+use mathlib.Core.Bool.{Bool}
+use mathlib.Core.List.{List, [], _∷_, _++_, map, append-assoc}
+use Rattle.definition.specs.Runs.{Run, joined, grouped}
+use Rattle.definition.specs.Newline.{chars, char-more}
+use Rattle.definition.specs.Pre.{pres, Pre, pre-begin, pre-more}
+use Rattle.definition.specs.Glue.{Token, tokens, pre-kind, flat, glued, glues}
+use Rattle.theorems.proofs.Runs.{joined-append, joined-grouped}
+
+module _ {S : Type 0} (k : Run Token S → ℕ) where
+  pub joined-flat : (rs : List (Run Token S)) → joined (map (flat k) rs) ≡ joined (joined rs)
+  unfolding joined flat
+  joined-flat [] = refl
+  joined-flat (r ∷ rs) = ap (λ l. r .head .head ∷ l)
+      (rw (joined-flat rs, joined-append (r .tail) (joined rs)) (append-assoc (r .head .tail) (joined (r .tail)) (joined (joined rs))))
+
+pub joined-tokens : (f : Bool) (bs : List ℕ) → joined (tokens f bs) ≡ bs
+unfolding tokens chars pres
+joined-tokens f bs =
+    joined-flat (λ r. r .kind) _
+    ∙ ap joined (joined-grouped _ _ _ _)
+    ∙ joined-flat pre-kind _
+    ∙ ap joined (joined-grouped _ _ _ _)
+    ∙ joined-grouped _ _ _ _
