@@ -30,25 +30,28 @@ unfoldable pub too-many : List ℕ → Bool
 too-many [] = false
 too-many (n ∷ ns) = ltb most-concats n || too-many ns
 
--- The nine refusals.
+-- The nine refusals, by their conditions.
+abbrev pub Refusal : record { LENGTH : ℕ; UTF8 : ℕ; CONCATS : ℕ; ENTRIES : ℕ; ERRORS : ℕ; LINES : ℕ; LOOKUP : ℕ; OUTPUT : ℕ; KIND : ℕ }
+Refusal = record { LENGTH = 1; UTF8 = 2; CONCATS = 3; ENTRIES = 4; ERRORS = 5; LINES = 6; LOOKUP = 7; OUTPUT = 8; KIND = 9 }
+
 abbrev pub too-long : List ℕ → Check
-too-long src = record { number = 1; fails = ltb longest-source (length src) }
+too-long src = record { number = Refusal.LENGTH; fails = ltb longest-source (length src) }
 
 abbrev pub not-utf8 : List ℕ → Check
-not-utf8 src = record { number = 2; fails = not (utf8 src) }
+not-utf8 src = record { number = Refusal.UTF8; fails = not (utf8 src) }
 
 abbrev pub too-many-concats : List ℕ → Check
-too-many-concats counts = record { number = 3; fails = too-many counts }
+too-many-concats counts = record { number = Refusal.CONCATS; fails = too-many counts }
 
--- 4, 5, 6 and 8: the numbers don't fit a table of that length.
+-- ENTRIES, ERRORS, LINES and OUTPUT: the numbers don't fit a table of that length.
 abbrev pub short-table : ℕ → List ℕ → ℕ → Check
 short-table number numbers room = record { number = number; fails = ltb room (length numbers) }
 
 abbrev pub no-line-table : List ℕ → Check
-no-line-table lines = record { number = 7; fails = not (line-table lines) }
+no-line-table lines = record { number = Refusal.LOOKUP; fails = not (line-table lines) }
 
 abbrev pub no-kind : ℕ → Check
-no-kind k = record { number = 9; fails = eqb k 0 || eqb k Kind.LINECONT || ltb Kind.ROOT k }
+no-kind k = record { number = Refusal.KIND; fails = eqb k 0 || eqb k Kind.LINECONT || ltb Kind.ROOT k }
 
 -- What a call leaves of a count and in a table: the numbers and then 0, or zeros alone after a refusal.
 abbrev pub counted : ℕ → ℕ → ℕ
@@ -90,7 +93,7 @@ pub record Reading : Type 0 where
 abbrev pub reading-checks : List ℕ → Full → ℕ → ℕ → ℕ → List Check
 reading-checks src f entry-room error-room line-room =
     too-long src ∷ not-utf8 src ∷ too-many-concats (f .concats) ∷
-    short-table 4 (entries-of f) entry-room ∷ short-table 5 (errors-of f) error-room ∷ short-table 6 (f .lines) line-room ∷ []
+    short-table Refusal.ENTRIES (entries-of f) entry-room ∷ short-table Refusal.ERRORS (errors-of f) error-room ∷ short-table Refusal.LINES (f .lines) line-room ∷ []
 
 unfoldable pub outcome : ℕ → Full → ℕ → ℕ → ℕ → Reading
 outcome r f entry-room error-room line-room = record {
@@ -122,23 +125,23 @@ reading-body src room =
     let tree = parse-define-body src in
     let es = entries 0 0 tree in
     let ns = entry-numbers es in
-    fills (refusal (too-long src ∷ not-utf8 src ∷ too-many-concats (body-concats tree) ∷ short-table 4 ns room ∷ [])) (length es) ns room
+    fills (refusal (too-long src ∷ not-utf8 src ∷ too-many-concats (body-concats tree) ∷ short-table Refusal.ENTRIES ns room ∷ [])) (length es) ns room
 
 unfoldable pub listing-tokens : List ℕ → ℕ → Filled
 listing-tokens src room =
     let ts = tokens false src in
     let ns = token-numbers 0 ts in
-    fills (refusal (too-long src ∷ not-utf8 src ∷ short-table 4 ns room ∷ [])) (length ts) ns room
+    fills (refusal (too-long src ∷ not-utf8 src ∷ short-table Refusal.ENTRIES ns room ∷ [])) (length ts) ns room
 
 unfoldable pub building-lines : List ℕ → ℕ → Filled
 building-lines src room =
     let ns = line-starts src in
-    fills (refusal (too-long src ∷ not-utf8 src ∷ short-table 6 ns room ∷ [])) (length ns) ns room
+    fills (refusal (too-long src ∷ not-utf8 src ∷ short-table Refusal.LINES ns room ∷ [])) (length ns) ns room
 
 unfoldable pub unescaping : List ℕ → ℕ → Filled
 unescaping src room =
     let ns = unescaped src in
-    fills (refusal (too-long src ∷ not-utf8 src ∷ short-table 8 ns room ∷ [])) (length ns) ns room
+    fills (refusal (too-long src ∷ not-utf8 src ∷ short-table Refusal.OUTPUT ns room ∷ [])) (length ns) ns room
 
 -- Looking up an offset, and pasting two kinds.
 pub record Looked : Type 0 where

@@ -27,9 +27,6 @@ unexpected t kinds = record { sort = ErrorKind.unexpected; start = t .start; end
 abbrev pub end-of-input : ℕ → ℕ → List ℕ → Err
 end-of-input start end kinds = record { sort = ErrorKind.end-of-input; start = start; end = end; actual = 0; expected = kinds; name-start = 0; name-end = 0 }
 
-abbrev pub error-width : ℕ
-error-width = 10
-
 -- The numbers of errors under a line table.
 unfoldable pub error-numbers : List ℕ → List Err → List ℕ
 error-numbers lines [] = []

@@ -7,8 +7,8 @@ use Rattle.definition.specs.LineMap.{newline-ends, line-starts, last-lin
 use Rattle.definition.specs.Unescaped.{unescaped-chars, unescaped}
 use Rattle.definition.specs.Pre.{kind-of, find, begin, flag, more, pre-begin, pre-more, pres}
 use Rattle.definition.specs.Glue.{glued, flat, pre-kind, tokens}
-use Rattle.definition.specs.Tree.{entry-width, placed, bytes, _▹_, leaves, row, size, entries, entry-numbers, concat-ops, body-concats}
-use Rattle.definition.specs.Error.{error-width, error-numbers}
+use Rattle.definition.specs.Tree.{Width, placed, bytes, _▹_, leaves, row, size, entries, entry-numbers, concat-ops, body-concats}
+use Rattle.definition.specs.Error.{error-numbers}
 use Rattle.definition.specs.Parser.{while, after, peek, _then_, wrap, skip, skip-trivia, nothing, bump, maybe, expect-one}
 use Rattle.definition.specs.Syntax.{nest, wrapped, pasted, pp-tokens-from, pp-tokens, all-trivia, trimmed, trailing, body, pp-body, args, define-args, pp-define, pp-if-ident, pp-version, colon, pp-extension, last-stop, extra, finish, named, directive, unknown, depth, pp-rs-ident, pp-include, directives, control-line, hash-item, item, file, relexed, parse}
 use Rattle.definition.specs.Calls.{refusal, too-many, padded, filled, full-reading, entries-of, errors-of, outcome, reading}
@@ -20,5 +20,5 @@ listed src =
     let f = full-reading src in
     let r = reading src (length (entries-of f)) (length (errors-of f)) (length (f .lines)) in
     r .refused ∷ r .entry-count ∷ r .error-count ∷ r .line-count
-    ∷ (take (entry-width * r .entry-count) (r .entry-table)
-    ++ (take (error-width * r .error-count) (r .error-table) ++ take (r .line-count) (r .line-table)))
+    ∷ (take (Width.entry * r .entry-count) (r .entry-table)
+    ++ (take (Width.error * r .error-count) (r .error-table) ++ take (r .line-count) (r .line-table)))

@@ -1,5 +1,4 @@
--- Sources are lists of bytes. Here characters and words of the documents become bytes.
--- The library's names that the definition uses are passed on.
+-- Sources are lists of bytes; characters and words of the documents become bytes. The library's names are passed on.
 pub use Prim.Native.Nat.{ℕ, zero, suc, _+_, _-_, _*_}
 pub use mathlib.Core.Path.{_≡_}
 pub use mathlib.Core.Bool.{Bool, true, false, not, _&&_, _||_}

@@ -64,23 +64,21 @@ pub record Entry : Type 0 where
   pub start : ℕ
   pub end : ℕ
 
-abbrev pub leaf-form : ℕ
-leaf-form = 0
-
-abbrev pub node-form : ℕ
-node-form = 1
+abbrev pub Form : record { leaf : ℕ; node : ℕ }
+Form = record { leaf = 0; node = 1 }
 
 -- The entries of a row of trees at a level and an offset, parent before children, left to right.
 unfoldable pub entries : ℕ → ℕ → Forest → List Entry
 entries l at nil = []
 entries l at (leaf t f) =
-    record { form = leaf-form; kind = t .kind; level = l; start = at; end = at + long t } ∷ entries l (at + long t) f
+    record { form = Form.leaf; kind = t .kind; level = l; start = at; end = at + long t } ∷ entries l (at + long t) f
 entries l at (node k c f) =
-    record { form = node-form; kind = k; level = l; start = at; end = at + size c }
+    record { form = Form.node; kind = k; level = l; start = at; end = at + size c }
     ∷ (entries (l + 1) at c ++ entries l (at + size c) f)
 
-abbrev pub entry-width : ℕ
-entry-width = 5
+-- How many numbers an entry has, and an error.
+abbrev pub Width : record { entry : ℕ; error : ℕ }
+Width = record { entry = 5; error = 10 }
 
 unfoldable pub entry-numbers : List Entry → List ℕ
 entry-numbers [] = []

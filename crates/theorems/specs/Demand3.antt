@@ -7,7 +7,7 @@ use lib.Dec.{eqb}
 use lib.ListN.{length, getD, drop}
 use lib.Seq.{slice}
 use Rattle.definition.specs.Text.{if_then_else_}
-use Rattle.definition.specs.Tree.{Leaf, bytes, Entry, entry-width, leaf-form}
+use Rattle.definition.specs.Tree.{Leaf, bytes, Entry, Width, Form}
 use Rattle.definition.specs.Grammar.{Cut, Division, Keeps}
 use Rattle.definition.specs.Calls.{Reading}
 
@@ -16,12 +16,12 @@ unfoldable pub entries-in : ℕ → List ℕ → List Entry
 entries-in zero table = []
 entries-in (suc n) table =
     record { form = getD table 0 0; kind = getD table 1 0; level = getD table 2 0; start = getD table 3 0; end = getD table 4 0 }
-    ∷ entries-in n (drop entry-width table)
+    ∷ entries-in n (drop Width.entry table)
 
 -- The entries of form 0, in table order.
 unfoldable pub leaf-entries : List Entry → List Entry
 leaf-entries [] = []
-leaf-entries (e ∷ es) = if eqb (e .form) leaf-form then e ∷ leaf-entries es else leaf-entries es
+leaf-entries (e ∷ es) = if eqb (e .form) Form.leaf then e ∷ leaf-entries es else leaf-entries es
 
 -- The leaf of an entry: its kind, and the source's bytes from its start to its end.
 unfoldable pub leaf-of : List ℕ → Entry → Leaf

@@ -1,2 +1,3 @@
 pub mod Placed
 pub mod Demand3
+pub mod Worked
