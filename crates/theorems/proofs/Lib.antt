@@ -1,3 +1,5 @@
 pub mod Runs
 pub mod Tokens
 pub mod Worked
+pub mod Entries
+pub mod Demand3
