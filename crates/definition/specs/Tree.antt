@@ -76,9 +76,9 @@ entries l at (node k c f) =
     record { form = Form.node; kind = k; level = l; start = at; end = at + size c }
     ∷ (entries (l + 1) at c ++ entries l (at + size c) f)
 
--- How many numbers an entry has, and an error.
-abbrev pub Width : record { entry : ℕ; error : ℕ }
-Width = record { entry = 5; error = 10 }
+-- How many numbers an entry has, an error, and a token.
+abbrev pub Width : record { entry : ℕ; error : ℕ; token : ℕ }
+Width = record { entry = 5; error = 10; token = 3 }
 
 unfoldable pub entry-numbers : List Entry → List ℕ
 entry-numbers [] = []

@@ -3,3 +3,4 @@ pub mod Tokens
 pub mod Worked
 pub mod Entries
 pub mod Demand3
+pub mod Refusals

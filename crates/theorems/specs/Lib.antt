@@ -1,3 +1,4 @@
 pub mod Placed
 pub mod Demand3
 pub mod Worked
+pub mod Refusals

@@ -1,0 +1,221 @@
+-- The refusals of the seven calls.
+use Prim.Native.Nat.{ℕ, zero, suc, _+_, _*_, _<_, _≤_}
+use mathlib.Core.Path.{_≡_, refl, ap, sym, _∙_}
+use mathlib.Core.Bool.{Bool, true, false, not, _&&_, _||_, false≢true, or-true}
+use mathlib.Core.Logic.{_↔_, _⊎_, inl, inr}
+use mathlib.Core.List.{List, [], _∷_, _++_, cons-ne-nil}
+use borrow.Author.Tests.{ltb-true, ltb-false, lt-ltb, le-ltb, eqb-true, eqb-false, eq-eqb, ne-eqb, not-true, not-false}
+use native.Mathlib.Omega.{arith}
+use lib.ListN.{length, replicate}
+use lib.Dec.{eqb, ltb}
+use Rattle.definition.specs.Text.{if_then_else_}
+use Rattle.definition.specs.Runs.{text}
+use Rattle.definition.specs.Utf8.{utf8}
+use Rattle.definition.specs.SyntaxKind.{Kind}
+use Rattle.definition.specs.LineMap.{line-starts, rises, line-table}
+use Rattle.definition.specs.Unescaped.{unescaped}
+use Rattle.definition.specs.Glue.{Token, tokens, token-numbers}
+use Rattle.definition.specs.Tree.{Entry, Width, entries, entry-numbers, body-concats}
+use Rattle.definition.specs.Error.{Err, error-numbers}
+use Rattle.definition.specs.Syntax.{parse-define-body}
+use Rattle.definition.specs.Calls.{Check, Refusal, longest-source, most-concats, refusal, too-many, too-long, not-utf8, too-many-concats, short-table, no-line-table, no-kind, counted, filled, full-reading, reading-checks, outcome, reading, Filled, reading-body, listing-tokens, building-lines, unescaping, looking-up, pasting}
+use Rattle.theorems.proofs.Worked.{and-true}
+use Rattle.theorems.specs.Refusals.{Pass, Given, Refuses, Zeros, Some-over, Rises, Line-table}
+
+-- A number is given exactly if its condition holds and no earlier one does.
+refusal-given : (cs : List Check) (n : ℕ) → 0 < n → refusal cs ≡ n → Given n cs
+unfolding refusal Pass
+refusal-given [] n h e = absurd (omega arith)
+refusal-given (c ∷ cs) n h e = go (c .fails) refl (λ q. refusal-given cs n h q)
+  where
+    go : (b : Bool) → c .fails ≡ b → (refusal cs ≡ n → Given n cs) → Given n (c ∷ cs)
+    go true f ih = record { before = []; check = c; later = cs; all = refl; number-is = rw (f, refusal) at e; holds = f; no-earlier = tt }
+    go false f ih =
+        let g : Given n cs = ih (rw (f, refusal) at e) in
+        record { before = c ∷ g .before; check = g .check; later = g .later; all = ap (λ l. c ∷ l) (g .all); number-is = g .number-is; holds = g .holds; no-earlier = (f, g .no-earlier) }
+
+first-refusal : (before later : List Check) (c : Check) → c .fails ≡ true → Pass before → refusal (before ++ (c ∷ later)) ≡ c .number
+unfolding refusal Pass
+first-refusal [] later c f p = rw (f, refusal) refl
+first-refusal (b ∷ before) later c f p = rw (p .0, refusal) (first-refusal before later c f (p .1))
+
+given-refusal : (cs : List Check) (n : ℕ) → Given n cs → refusal cs ≡ n
+given-refusal cs n g = ap refusal (g .all) ∙ first-refusal (g .before) (g .later) (g .check) (g .holds) (g .no-earlier) ∙ g .number-is
+
+-- No number is 0, so that 0 says that no condition holds.
+unfoldable numbered : List Check → Bool
+numbered [] = true
+numbered (c ∷ cs) = ltb 0 (c .number) && numbered cs
+
+refusal-pass : (cs : List Check) → numbered cs ≡ true → refusal cs ≡ 0 → Pass cs
+unfolding refusal Pass numbered
+refusal-pass [] h e = tt
+refusal-pass (c ∷ cs) h e = go (c .fails) refl (λ q. refusal-pass cs (k .1) q)
+  where
+    k : (ltb 0 (c .number) ≡ true) × (numbered cs ≡ true)
+    k = and-true (ltb 0 (c .number)) (numbered cs) h
+
+    go : (b : Bool) → c .fails ≡ b → (refusal cs ≡ 0 → Pass cs) → Pass (c ∷ cs)
+    go true f ih =
+        let q : c .number ≡ 0 = rw (f, refusal) at e in
+        let l : 0 < c .number = ltb-true 0 (c .number) (k .0) in
+        absurd (omega arith)
+    go false f ih = (f, ih (rw (f, refusal) at e))
+
+pass-refusal : (cs : List Check) → Pass cs → refusal cs ≡ 0
+unfolding refusal Pass
+pass-refusal [] p = refl
+pass-refusal (c ∷ cs) p = rw (p .0, refusal) (pass-refusal cs (p .1))
+
+refuses : (cs : List Check) → numbered cs ≡ true → Refuses (refusal cs) cs
+refuses cs h = record { given = λ n p. (refusal-given cs n p, given-refusal cs n); accepted = (refusal-pass cs h, pass-refusal cs) }
+
+zeros : (r n : ℕ) (numbers : List ℕ) (room : ℕ) → Zeros r (counted r n) room (filled r numbers room)
+unfolding filled
+zeros r n numbers room = record { count-0 = λ h. rw (ne-eqb r 0 h) refl; table-0 = λ h. rw (ne-eqb r 0 h) refl }
+
+-- Reading a source: 1 to 6.
+module _ (src : List ℕ) (a b c : ℕ) where
+  pub reading-refuses : Refuses (reading src a b c .refused) (reading-checks src (full-reading src) a b c)
+  unfolding reading outcome numbered
+  reading-refuses = refuses (reading-checks src (full-reading src) a b c) refl
+
+  pub reading-zero-entries : Zeros (reading src a b c .refused) (reading src a b c .entry-count) a (reading src a b c .entry-table)
+  unfolding reading outcome
+  reading-zero-entries = zeros _ _ _ a
+
+  pub reading-zero-errors : Zeros (reading src a b c .refused) (reading src a b c .error-count) b (reading src a b c .error-table)
+  unfolding reading outcome
+  reading-zero-errors = zeros _ _ _ b
+
+  pub reading-zero-lines : Zeros (reading src a b c .refused) (reading src a b c .line-count) c (reading src a b c .line-table)
+  unfolding reading outcome
+  reading-zero-lines = zeros _ _ _ c
+
+-- The calls that fill one table.
+module _ (src : List ℕ) (room : ℕ) where
+  abbrev body-entries : List ℕ
+  body-entries = entry-numbers (entries 0 0 (parse-define-body src))
+
+  -- Reading a define body: 1 to 4.
+  pub body-refuses : Refuses
+      (reading-body src room .refused)
+      (too-long src ∷ not-utf8 src ∷ too-many-concats (body-concats (parse-define-body src)) ∷ short-table Refusal.ENTRIES body-entries room ∷ [])
+  unfolding reading-body numbered
+  body-refuses = refuses _ refl
+
+  pub body-zeros : Zeros (reading-body src room .refused) (reading-body src room .count) room (reading-body src room .table)
+  unfolding reading-body
+  body-zeros = zeros _ _ _ room
+
+  -- Listing tokens: 1, 2, 4.
+  pub tokens-refuses : Refuses
+      (listing-tokens src room .refused)
+      (too-long src ∷ not-utf8 src ∷ short-table Refusal.ENTRIES (token-numbers 0 (tokens false src)) room ∷ [])
+  unfolding listing-tokens numbered
+  tokens-refuses = refuses _ refl
+
+  pub tokens-zeros : Zeros (listing-tokens src room .refused) (listing-tokens src room .count) room (listing-tokens src room .table)
+  unfolding listing-tokens
+  tokens-zeros = zeros _ _ _ room
+
+  -- Building the line table: 1, 2, 6.
+  pub lines-refuses : Refuses
+      (building-lines src room .refused) (too-long src ∷ not-utf8 src ∷ short-table Refusal.LINES (line-starts src) room ∷ [])
+  unfolding building-lines numbered
+  lines-refuses = refuses _ refl
+
+  pub lines-zeros : Zeros (building-lines src room .refused) (building-lines src room .count) room (building-lines src room .table)
+  unfolding building-lines
+  lines-zeros = zeros _ _ _ room
+
+  -- Unescaping: 1, 2, 8.
+  pub unescape-refuses : Refuses
+      (unescaping src room .refused) (too-long src ∷ not-utf8 src ∷ short-table Refusal.OUTPUT (unescaped src) room ∷ [])
+  unfolding unescaping numbered
+  unescape-refuses = refuses _ refl
+
+  pub unescape-zeros : Zeros (unescaping src room .refused) (unescaping src room .count) room (unescaping src room .table)
+  unfolding unescaping
+  unescape-zeros = zeros _ _ _ room
+
+-- Looking up an offset: 7. Pasting two kinds: 9. A refused one answers zeros.
+module _ (lines : List ℕ) (offset : ℕ) where
+  pub lookup-refuses : Refuses (looking-up lines offset .refused) (no-line-table lines ∷ [])
+  unfolding looking-up numbered
+  lookup-refuses = refuses _ refl
+
+  pub lookup-zeros : (looking-up lines offset .refused ≡ 0 → ⊥) → (looking-up lines offset .line ≡ 0) × (looking-up lines offset .column ≡ 0)
+  unfolding looking-up
+  lookup-zeros h = (rw (ne-eqb _ 0 h) refl, rw (ne-eqb _ 0 h) refl)
+
+module _ (lhs rhs : ℕ) where
+  pub paste-refuses : Refuses (pasting lhs rhs .refused) (no-kind lhs ∷ no-kind rhs ∷ [])
+  unfolding pasting numbered
+  paste-refuses = refuses _ refl
+
+  pub paste-zeros : (pasting lhs rhs .refused ≡ 0 → ⊥) → pasting lhs rhs .kind ≡ 0
+  unfolding pasting
+  paste-zeros h = rw (ne-eqb _ 0 h) refl
+
+-- The conditions, in 01's words.
+pub length-entries : (es : List Entry) → length (entry-numbers es) ≡ Width.entry * length es
+unfolding entry-numbers
+length-entries [] = refl
+length-entries (e ∷ es) = let h : length (entry-numbers es) ≡ Width.entry * length es = length-entries es in omega arith
+
+pub length-errors : (lines : List ℕ) (es : List Err) → length (error-numbers lines es) ≡ Width.error * length es
+unfolding error-numbers
+length-errors lines [] = refl
+length-errors lines (e ∷ es) = let h : length (error-numbers lines es) ≡ Width.error * length es = length-errors lines es in omega arith
+
+pub length-tokens : (at : ℕ) (ts : List Token) → length (token-numbers at ts) ≡ Width.token * length ts
+unfolding token-numbers
+length-tokens at [] = refl
+length-tokens at (t ∷ ts) =
+    let h : length (token-numbers (at + length (text t)) ts) ≡ Width.token * length ts = length-tokens (at + length (text t)) ts in omega arith
+
+pub short-when : (number room : ℕ) (numbers : List ℕ) → (short-table number numbers room .fails ≡ true) ↔ (room < length numbers)
+short-when number room numbers = (ltb-true room (length numbers), lt-ltb room (length numbers))
+
+pub too-long-when : (src : List ℕ) → (too-long src .fails ≡ true) ↔ (longest-source < length src)
+too-long-when src = (ltb-true longest-source (length src), lt-ltb longest-source (length src))
+
+pub not-utf8-when : (src : List ℕ) → (not-utf8 src .fails ≡ true) ↔ (utf8 src ≡ false)
+not-utf8-when src = (not-true (utf8 src), λ e. ap not e)
+
+some-over : (ns : List ℕ) → too-many ns ≡ true → Some-over ns
+unfolding too-many Some-over
+some-over [] e = absurd (false≢true e)
+some-over (n ∷ ns) e = go (ltb most-concats n) refl (some-over ns)
+  where
+    go : (b : Bool) → ltb most-concats n ≡ b → (too-many ns ≡ true → Some-over ns) → (most-concats < n) ⊎ Some-over ns
+    go true q ih = inl (ltb-true most-concats n q)
+    go false q ih = inr (ih (rw q at e))
+
+over-some : (ns : List ℕ) → Some-over ns → too-many ns ≡ true
+unfolding too-many Some-over
+over-some [] h = absurd h
+over-some (n ∷ ns) (inl l) = rw (lt-ltb most-concats n l) refl
+over-some (n ∷ ns) (inr s) = rw (over-some ns s) (or-true (ltb most-concats n))
+
+pub too-many-when : (ns : List ℕ) → (too-many-concats ns .fails ≡ true) ↔ Some-over ns
+too-many-when ns = (some-over ns, over-some ns)
+
+rises-up : (s : ℕ) (ts : List ℕ) → rises s ts ≡ true → Rises s ts
+unfolding rises Rises
+rises-up s [] e = tt
+rises-up s (t ∷ ts) e = let h = and-true (ltb s t) (rises t ts) e in (ltb-true s t (h .0), rises-up t ts (h .1))
+
+up-rises : (s : ℕ) (ts : List ℕ) → Rises s ts → rises s ts ≡ true
+unfolding rises Rises
+up-rises s [] h = refl
+up-rises s (t ∷ ts) h = rw (lt-ltb s t (h .0)) (up-rises t ts (h .1))
+
+pub line-table-when : (lines : List ℕ) → (line-table lines ≡ true) ↔ Line-table lines
+unfolding line-table Line-table
+line-table-when [] = (λ e. absurd (false≢true e), λ h. absurd h)
+line-table-when (s ∷ ss) = (
+  λ e. let h = and-true (eqb s 0) (rises s ss) e in (eqb-true s 0 (h .0), rises-up s ss (h .1)),
+  λ h. rw (eq-eqb s 0 (h .0)) (up-rises s ss (h .1)),
+)
