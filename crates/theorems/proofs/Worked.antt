@@ -1,4 +1,4 @@
--- The worked readings: one computed test, and one law that turns it into an equation for each.
+-- The worked readings: the law that turns their computed test into an equation for each.
 use Prim.Native.Nat.{ℕ, zero, suc, _<_}
 use mathlib.Core.Path.{_≡_, refl, ap, ap₂}
 use mathlib.Core.Bool.{Bool, true, false, _&&_, false≢true}
@@ -8,11 +8,7 @@ use lib.Dec.{eqb}
 use borrow.Author.Tests.{eqb-true}
 use Rattle.definition.specs.Text.{ascii, same}
 use Rattle.definition.specs.Listed.{listed}
-use Rattle.theorems.specs.Worked.{Worked, worked, all-listed}
-
-computed : all-listed worked ≡ true
-unfolding all-listed worked listed
-computed = refl
+use Rattle.definition.proofs.Worked.{Worked, worked, all-listed, worked-listed}
 
 pub and-true : (a b : Bool) → (a && b) ≡ true → (a ≡ true) × (b ≡ true)
 and-true true b e = (refl, e)
@@ -38,4 +34,4 @@ each-listed (v ∷ ws) e w m =
     ]
 
 pub worked-readings : (w : Worked) → List·Memᴰ w worked → listed (w .source) ≡ w .numbers
-worked-readings w m = each-listed worked computed w m
+worked-readings w m = each-listed worked worked-listed w m
