@@ -4,3 +4,4 @@ pub mod Worked
 pub mod Entries
 pub mod Demand3
 pub mod Refusals
+pub mod Accepts
