@@ -1,2 +1,6 @@
 pub mod Runs
 pub mod Tokens
+pub mod Plain
+pub mod TilingLeaves
+pub mod TilingSteady
+pub mod TilingPlain
