@@ -4,3 +4,8 @@ pub mod Plain
 pub mod TilingLeaves
 pub mod TilingSteady
 pub mod TilingPlain
+pub mod Tiling
+pub mod ReplayLaws
+pub mod ReplayLines
+pub mod ReplayItems
+pub mod Replay

@@ -1,18 +1,18 @@
--- Every reader but that of `include` is steady. First one equation a case, and from them the law.
-use Prim.Native.Nat.{ℕ, zero, suc}
-use mathlib.Core.Path.{_≡_, refl, ap, sym, _∙_}
+-- The readers of the directives' rests, but for `include`'s, and of groups are steady. Each has one equation a case first.
+use Prim.Native.Nat.{ℕ}
+use mathlib.Core.Path.{_≡_, refl}
 use mathlib.Core.Bool.{Bool, true, false, not}
-use mathlib.Core.List.{List, [], _∷_, _++_, append-nil}
+use mathlib.Core.List.{List, [], _∷_}
 use mathlib.Core.Option.{Option, none, some}
 use Rattle.definition.specs.SyntaxKind.{Kind}
 use Rattle.definition.specs.Tree.{Leaf, Forest, nil, leaf, node, _▹_, leaves, row, stop}
-use Rattle.definition.specs.Error.{Err, ErrorKind, named-error, unexpected, end-of-input}
-use Rattle.definition.specs.Parser.{is, trivia, newline, inline, while, after, Got, push, raise, Reader, _then_, wrap, skip-trivia, nothing, bump, maybe, expect-one}
+use Rattle.definition.specs.Error.{Err, unexpected, end-of-input}
+use Rattle.definition.specs.Parser.{is, trivia, newline, inline, while, push, raise, Reader, _then_, wrap, nothing, bump, expect-one}
 use Rattle.definition.specs.Syntax.{pp-tokens, trimmed, trailing, body, pp-body, wanted, arg-kinds, push-arg, args, define-args, pp-define, pp-if-ident, pp-version, colon, pp-extension, last-stop, extra, finish, unknown, depth, pp-rs-ident}
 use Rattle.theorems.proofs.TilingLeaves.{leaves-pp-tokens, leaves-row, trimmed-trailing}
-use Rattle.theorems.proofs.TilingSteady.{Heads, Steady-at, Steady, steady-then, over, steady-over, steady-wrap, steady-raise, steady-still, steady-nothing, steady-while, steady-trivia, steady-like-nil, steady-like-cons, steady-maybe, pushing, steady-push, steady-bump}
+use Rattle.theorems.proofs.TilingSteady.{Steady-at, Steady, steady-then, steady-over, steady-wrap, steady-raise, steady-still, steady-nothing, steady-while, steady-trivia, steady-like-nil, steady-like-cons, steady-maybe, pushing, steady-push, steady-bump}
 
--- A row with nothing taken and some errors.
+-- Nothing taken, and some errors.
 abbrev still : List Err → Reader
 still es ts = record { tree = nil; errs = es; rest = ts }
 
@@ -191,6 +191,7 @@ module _ (e : Leaf → ℕ → List Err) where
       go true q = steady-like-cons _ _ t ts (finish-line t q) (steady-bump (t ∷ ts))
       go false q = steady-like-cons _ _ t ts (finish-extra t q) (steady-then _ _ (steady-wrap _ _ (steady-surplus t)) steady-bump (t ∷ ts))
 
+-- The line of an unknown word.
 pub steady-unknown : (w : Leaf) → Steady (unknown w)
 unfolding unknown
 steady-unknown w = steady-raise _ _ (steady-finish (λ t end. []))

@@ -1,6 +1,6 @@
--- Steady readers take their leaves as they are, and read them the same again: what is so, and how it carries over.
+-- Steady readers take their leaves as they are, and read them the same again; the laws of the combinators.
 use Prim.Native.Nat.{ℕ, _≤_}
-use mathlib.Core.Path.{_≡_, refl, ap, sym, _∙_, subst}
+use mathlib.Core.Path.{_≡_, refl, ap, _∙_, subst}
 use mathlib.Core.Bool.{Bool, true, false}
 use mathlib.Core.List.{List, [], _∷_, _++_, append-assoc, append-nil}
 use lib.ListN.{length, length-append}
@@ -39,6 +39,7 @@ unfolding peek
 peek-heads p [] us = heads-nil (λ us. peek p us ≡ false) refl us
 peek-heads p (t ∷ ts) us = heads-cons (λ us. peek p us ≡ p t) t ts (λ vs. refl) us
 
+-- What follows the leading leaves that pass a test begins with none.
 pub stops : (p : Leaf → Bool) (ts us : List Leaf) → Heads (after p ts) us → peek p us ≡ false
 stops p ts us h = peek-heads p (after p ts) us h ∙ peek-after p ts
 
@@ -61,6 +62,7 @@ Again q g = (us : List Leaf) → Heads (g .rest) us → q (leaves (g .tree) ++ u
 pub starts-same : (g : Got) (ts : List Leaf) → Same g ts → Starts g ts
 starts-same g ts s us h = subst (λ r. Heads r (leaves (g .tree) ++ us)) s (heads-append (leaves (g .tree)) (g .rest) us h)
 
+-- Both, at one row and at every row.
 pub record Steady-at (p : Reader) (ts : List Leaf) : Type 0 where
   pub same : Same (p ts) ts
   pub again : Again p (p ts)
@@ -73,11 +75,8 @@ pub no-more-left : (p : Reader) (ts : List Leaf) → Steady-at p ts → length (
 no-more-left p ts s = omega (arith, simp length-append at (ap length (s .same)))
 
 -- One reader and then the next.
-pub leaves-then : (p q : Reader) (ts : List Leaf) → leaves ((p then q) ts .tree) ≡ leaves (p ts .tree) ++ leaves (q (p ts .rest) .tree)
-unfolding _then_
-leaves-then p q ts = leaves-▹ (p ts .tree) (q (p ts .rest) .tree)
-
-pub again-then : (p p′ q q′ : Reader) (ts : List Leaf) → Again p′ (p ts) → Again q′ (q (p ts .rest)) → Starts (q (p ts .rest)) (p ts .rest) → Again (p′ then q′) ((p then q) ts)
+pub again-then : (p p′ q q′ : Reader) (ts : List Leaf)
+    → Again p′ (p ts) → Again q′ (q (p ts .rest)) → Starts (q (p ts .rest)) (p ts .rest) → Again (p′ then q′) ((p then q) ts)
 unfolding _then_
 again-then p p′ q q′ ts hp hq s us h =
     let a : Got = p ts in
@@ -88,6 +87,7 @@ again-then p p′ q q′ ts hp hq s us h =
   where
     glue : Got → Got → Got
     glue a b = record { tree = a .tree ▹ b .tree; errs = a .errs ++ b .errs; rest = b .rest }
+
     seq : Got → Got
     seq a = glue a (q′ (a .rest))
 
@@ -97,8 +97,8 @@ steady-then p q hp hq ts =
     let r : List Leaf = p ts .rest in
     record {
       same = rw (leaves-▹ (p ts .tree) (q r .tree))
-        (append-assoc (leaves (p ts .tree)) (leaves (q r .tree)) (q r .rest) ∙ ap (λ l. leaves (p ts .tree) ++ l) (hq r .same) ∙ hp ts .same);
-      again = again-then p p q q ts (hp ts .again) (hq r .again) (starts-same (q r) r (hq r .same))
+          (append-assoc (leaves (p ts .tree)) (leaves (q r .tree)) (q r .rest) ∙ ap (λ l. leaves (p ts .tree) ++ l) (hq r .same) ∙ hp ts .same);
+      again = again-then p p q q ts (hp ts .again) (hq r .again) (starts-same (q r) r (hq r .same));
     }
 
 -- One node over what a reader takes, its kind by the errors.
@@ -110,14 +110,14 @@ unfolding leaves
 steady-over k p h ts =
     record {
       same = rw append-nil (h ts .same);
-      again = λ us e. rw append-nil (ap (over k) (h ts .again us e))
+      again = λ us e. rw append-nil (ap (over k) (h ts .again us e));
     }
 
 pub steady-wrap : (k : ℕ) (p : Reader) → Steady p → Steady (wrap k p)
 unfolding wrap
 steady-wrap k p = steady-over (λ es. k) p
 
--- Errors in front.
+-- An error in front.
 pub steady-raise : (e : Err) (p : Reader) → Steady p → Steady (λ ts. raise e (p ts))
 steady-raise e p h ts = record { same = h ts .same; again = λ us x. ap (λ g. raise e g) (h ts .again us x) }
 
@@ -136,7 +136,7 @@ steady-while p f e h ts =
     record {
       same = rw (h (while p ts)) (while-after p ts);
       again = λ us x. let q : peek p us ≡ false = stops p ts us x in
-          rw (h (while p ts), while-again p ts us q, after-again p ts us q) refl
+          rw (h (while p ts), while-again p ts us q, after-again p ts us q) refl;
     }
 
 pub steady-skip : (p : Leaf → Bool) → Steady (skip p)
@@ -153,7 +153,7 @@ steady-like p r ts e s =
     let i : p ts ≡ r ts = e ts (heads-self ts) in
     record {
       same = rw i (s .same);
-      again = rw i (λ us h. e (leaves (r ts .tree) ++ us) (starts-same (r ts) ts (s .same) us h) ∙ s .again us h)
+      again = rw i (λ us h. e (leaves (r ts .tree) ++ us) (starts-same (r ts) ts (s .same) us h) ∙ s .again us h);
     }
 
 pub steady-like-nil : (p r : Reader) → p [] ≡ r [] → Steady-at r [] → Steady-at p []
@@ -186,7 +186,7 @@ module _ (t : Leaf) (f : Forest → Forest) (es : List Err) (e : (c : Forest) �
     steady-push ts s =
         record {
           same = rw (i ts, e (q ts .tree)) (ap (λ l. t ∷ l) (s .same));
-          again = rw (i ts) (again-push (q ts) (s .again))
+          again = rw (i ts) (again-push (q ts) (s .again));
         }
 
 pub steady-bump : Steady bump
