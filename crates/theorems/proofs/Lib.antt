@@ -5,3 +5,12 @@ pub mod Entries
 pub mod Demand3
 pub mod Refusals
 pub mod Accepts
+pub mod Plain
+pub mod TilingLeaves
+pub mod TilingSteady
+pub mod TilingPlain
+pub mod Tiling
+pub mod ReplayLaws
+pub mod ReplayLines
+pub mod ReplayItems
+pub mod Replay
