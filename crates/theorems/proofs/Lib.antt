@@ -1,2 +1,5 @@
 pub mod Runs
 pub mod Tokens
+pub mod Clean
+pub mod Exact
+pub mod Groups

@@ -1,0 +1,136 @@
+-- Readers that meet no error, and what they leave.
+use Prim.Native.Nat.{ℕ}
+use mathlib.Core.Path.{_≡_, refl, ap, sym}
+use mathlib.Core.Bool.{Bool, true, false, not, _||_, true≢false}
+use mathlib.Core.List.{List, [], _∷_, _++_, cons-ne-nil}
+use mathlib.Core.Logic.{_⊎_, inl, inr}
+use borrow.Author.Tests.{eqb-true}
+use Rattle.definition.specs.Tree.{Leaf}
+use Rattle.definition.specs.Error.{Err}
+use Rattle.definition.specs.Parser.{is, trivia, newline, inline, after, peek, Got, Reader, _then_, skip, skip-trivia, nothing, bump, maybe}
+use Rattle.definition.specs.Grammar.{Many, no-more, one-more, t*}
+
+-- A reading with no error that leaves R, and a reader that reads L so.
+abbrev pub Clear : Got → List Leaf → Type 0
+Clear g R = (g .errs ≡ []) × (g .rest ≡ R)
+
+pub record Clean (p : Reader) (L R : List Leaf) : Type 0 where
+  pub clear : Clear (p L) R
+
+-- Two readers are clean one after the other exactly when each is.
+pub clean-then : (p q : Reader) {L M R : List Leaf} → Clean p L M → Clean q M R → Clean (p then q) L R
+unfolding _then_
+clean-then p q a b = record { clear = rw (a .clear .0, a .clear .1, _then_) (b .clear) }
+
+pub record Both (p q : Reader) (L R : List Leaf) : Type 0 where
+  pub middle : List Leaf
+  pub first : Clean p L middle
+  pub second : Clean q middle R
+
+no-errors : (a b : List Err) → a ++ b ≡ [] → (a ≡ []) × (b ≡ [])
+no-errors [] b e = (refl, e)
+no-errors (x ∷ a) b e = absurd (cons-ne-nil x (a ++ b) e)
+
+pub then-clean : (p q : Reader) {L R : List Leaf} → Clean (p then q) L R → Both p q L R
+unfolding _then_
+then-clean p q {L} c =
+    let e = no-errors (p L .errs) (q (p L .rest) .errs) (c .clear .0) in
+    record { middle = p L .rest; first = record { clear = (e .0, refl) }; second = record { clear = (e .1, c .clear .1) } }
+
+-- The kind of a leaf decides its tests.
+pub of-kind : {k : ℕ} (t : Leaf) → is k t ≡ true → t .kind ≡ k
+of-kind {k} t e = eqb-true (t .kind) k e
+
+pub trivia-inline : (t : Leaf) → trivia t ≡ true → inline t ≡ true
+trivia-inline t e = go (newline t) refl
+  where
+    go : (b : Bool) → newline t ≡ b → inline t ≡ true
+    go true q = absurd (true≢false (sym (rw (of-kind t q) at e)))
+    go false q = ap not q
+
+-- Of two tests that fail together each fails.
+pub or-left : (a b : Bool) → (a || b) ≡ false → a ≡ false
+or-left true b e = e
+or-left false b e = refl
+
+pub or-right : (a b : Bool) → (a || b) ≡ false → b ≡ false
+or-right true true e = e
+or-right true false e = refl
+or-right false b e = e
+
+-- The leaves left after all that pass a test.
+pub after-many : {p : Leaf → Bool} {L R : List Leaf} → Many p L R → peek p R ≡ false → after p L ≡ R
+unfolding after peek
+after-many {R = []} no-more h = refl
+after-many {R = t ∷ ts} no-more h = rw (h, after)
+after-many (one-more e m) h = rw (e, after) (after-many m h)
+
+-- They are as many as can be: the next one does not pass.
+pub record Skipped (p : Leaf → Bool) (L R : List Leaf) : Type 0 where
+  pub passed : Many p L R
+  pub next : peek p R ≡ false
+
+pub skipped : (p : Leaf → Bool) (L : List Leaf) → Skipped p L (after p L)
+unfolding after peek
+skipped p [] = record { passed = no-more; next = refl }
+skipped p (t ∷ L) = go (p t) refl (skipped p L)
+  where
+    go : (b : Bool) → p t ≡ b → Skipped p L (after p L) → Skipped p (t ∷ L) (after p (t ∷ L))
+    go true e ih = rw (e, after) (record { passed = one-more e (ih .passed); next = ih .next })
+    go false e ih = rw (e, after) (record { passed = no-more; next = e })
+
+pub peek-after : (p : Leaf → Bool) (L : List Leaf) → peek p (after p L) ≡ false
+peek-after p L = skipped p L .next
+
+pub many-many : {p : Leaf → Bool} {L M R : List Leaf} → Many p L M → Many p M R → Many p L R
+many-many no-more k = k
+many-many (one-more e m) k = one-more e (many-many m k)
+
+-- Trivia belongs to its line.
+pub many-inline : {L R : List Leaf} → t* L R → Many inline L R
+many-inline no-more = no-more
+many-inline (one-more {t = t} e m) = one-more (trivia-inline t e) (many-inline m)
+
+pub inline-after : (L : List Leaf) → after inline (after trivia L) ≡ after inline L
+inline-after L =
+    let s = skipped inline (after trivia L) in
+    sym (after-many (many-many (many-inline (skipped trivia L .passed)) (s .passed)) (s .next))
+
+pub clean-skip : {p : Leaf → Bool} {L R : List Leaf} → Many p L R → peek p R ≡ false → Clean (skip p) L R
+unfolding skip
+clean-skip m h = record { clear = (refl, after-many m h) }
+
+pub clean-trivia : {L R : List Leaf} → t* L R → peek trivia R ≡ false → Clean skip-trivia L R
+unfolding skip-trivia
+clean-trivia m h = clean-skip m h
+
+pub trivia-clean : {L R : List Leaf} → Clean skip-trivia L R → Skipped trivia L R
+unfolding skip-trivia skip
+trivia-clean {L} c = rw (c .clear .1) at (skipped trivia L)
+
+-- A leaf is taken with no error.
+pub clean-bump : {t : Leaf} {R : List Leaf} → Clean bump (t ∷ R) R
+unfolding bump
+clean-bump = record { clear = (refl, refl) }
+
+pub bump-clean : (q : Reader) {t : Leaf} {L R : List Leaf} → Clean (bump then q) (t ∷ L) R → Clean q L R
+unfolding _then_ bump
+bump-clean q c = record { clear = c .clear }
+
+-- What may be there is read exactly if its first leaf is there.
+module _ (p : Leaf → Bool) (r : Reader) where
+  pub maybe-there : {L R : List Leaf} → peek p L ≡ true → Clean r L R → Clean (maybe p r) L R
+  unfolding maybe
+  maybe-there e c = record { clear = rw (e, maybe) (c .clear) }
+
+  pub maybe-not : {L : List Leaf} → peek p L ≡ false → Clean (maybe p r) L L
+  unfolding maybe nothing
+  maybe-not e = record { clear = rw (e, maybe) (refl, refl) }
+
+  pub maybe-clean : {L R : List Leaf} → Clean (maybe p r) L R → ((peek p L ≡ true) × Clean r L R) ⊎ ((peek p L ≡ false) × (L ≡ R))
+  unfolding maybe nothing
+  maybe-clean {L} {R} c = go (peek p L) refl
+    where
+      go : (b : Bool) → peek p L ≡ b → ((peek p L ≡ true) × Clean r L R) ⊎ ((peek p L ≡ false) × (L ≡ R))
+      go true e = inl (e, record { clear = rw (e, maybe) at (c .clear) })
+      go false e = inr (e, rw (e, maybe) at (c .clear .1))
