@@ -106,7 +106,7 @@ exact-colon n r {G} x = record { to = to; from = λ {L} c. from L c }
         go false e = absurd (cons-ne-nil _ _ (rw (e, colon) at (c .clear .0)))
 
 module _ (n : ℕ) where
-  exact-ident : Exact (ident n) IDENT_KW
+  pub exact-ident : Exact (ident n) IDENT_KW
   exact-ident = exact-one n Kind.IDENT_KW
 
   pub exact-if-ident : Exact (pp-if-ident n) (rest-of Rest.ident)

@@ -3,3 +3,5 @@ pub mod Tokens
 pub mod Clean
 pub mod Exact
 pub mod Groups
+pub mod Words
+pub mod Lines
