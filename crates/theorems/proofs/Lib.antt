@@ -5,3 +5,4 @@ pub mod Exact
 pub mod Groups
 pub mod Words
 pub mod Lines
+pub mod Shorter
