@@ -4,7 +4,7 @@ use mathlib.Core.Path.{_≡_, refl, ap, sym}
 use mathlib.Core.Bool.{Bool, true, false, not, _||_, true≢false}
 use mathlib.Core.List.{List, [], _∷_, _++_, cons-ne-nil}
 use mathlib.Core.Logic.{_⊎_, inl, inr}
-use borrow.Author.Tests.{eqb-true}
+use borrow.Author.Tests.{eqb-true, not-true}
 use Rattle.definition.specs.Tree.{Leaf}
 use Rattle.definition.specs.Error.{Err}
 use Rattle.definition.specs.Parser.{is, trivia, newline, inline, after, peek, Got, Reader, _then_, skip, skip-trivia, nothing, bump, maybe}
@@ -48,7 +48,7 @@ trivia-inline t e = go (newline t) refl
     go true q = absurd (true≢false (sym (rw (of-kind t q) at e)))
     go false q = ap not q
 
--- Of two tests that fail together each fails.
+-- Where none of some tests passes each fails.
 pub or-left : (a b : Bool) → (a || b) ≡ false → a ≡ false
 or-left true b e = e
 or-left false b e = refl
@@ -57,6 +57,12 @@ pub or-right : (a b : Bool) → (a || b) ≡ false → b ≡ false
 or-right true true e = e
 or-right true false e = refl
 or-right false b e = e
+
+pub none-pass : (a b c : Bool) → not (a || b || c) ≡ true → (a ≡ false) × (b ≡ false) × (c ≡ false)
+none-pass a b c e =
+    let f = not-true (a || b || c) e in
+    let g = or-left (a || b) c f in
+    (or-left a b g, or-right a b g, or-right (a || b) c f)
 
 -- The leaves left after all that pass a test.
 pub after-many : {p : Leaf → Bool} {L R : List Leaf} → Many p L R → peek p R ≡ false → after p L ≡ R

@@ -6,3 +6,4 @@ pub mod Groups
 pub mod Words
 pub mod Lines
 pub mod Shorter
+pub mod Items

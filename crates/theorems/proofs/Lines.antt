@@ -5,29 +5,16 @@ use mathlib.Core.Bool.{Bool, true, false, _||_}
 use mathlib.Core.List.{List, [], _∷_, cons-ne-nil}
 use mathlib.Core.Option.{Option, none, some}
 use mathlib.Core.Logic.{_⊎_, inl, inr}
-use borrow.Author.Tests.{not-true}
 use Rattle.definition.specs.SyntaxKind.{Kind}
 use Rattle.definition.specs.Unescaped.{unescaped}
 use Rattle.definition.specs.Tree.{Leaf}
 use Rattle.definition.specs.Parser.{is, trivia, newline, peek, Reader, _then_, nothing, bump}
 use Rattle.definition.specs.Syntax.{Directive, named, directive, directives, unknown, pp-rs-ident, control-line}
 use Rattle.definition.specs.Grammar.{One, one, no-more, _⨟_, _⨾_, Eol, at-newline, at-end, t*, lparen, word-leaf, Closes, Rest, rest-of, words, rest-after, Content, no-word, a-word}
-use Rattle.theorems.proofs.Clean.{Clean, clean-then, of-kind, or-left, or-right, clean-bump, bump-clean}
+use Rattle.theorems.proofs.Clean.{Clean, clean-then, of-kind, none-pass, clean-bump, bump-clean}
 use Rattle.theorems.proofs.Exact.{Rel, Exact}
 use Rattle.theorems.proofs.Groups.{exact-group}
 use Rattle.theorems.proofs.Words.{tail, Agree, neither, both, agreed, id}
-
--- What a word is not.
-pub record Wordy (t : Leaf) : Type 0 where
-  pub no-trivia : trivia t ≡ false
-  pub no-newline : newline t ≡ false
-  pub no-lparen : lparen t ≡ false
-
-pub wordy : (t : Leaf) → word-leaf t ≡ true → Wordy t
-wordy t e =
-    let f : (trivia t || newline t || lparen t) ≡ false = not-true _ e in
-    let g : (trivia t || newline t) ≡ false = or-left _ (lparen t) f in
-    record { no-trivia = or-left _ (newline t) g; no-newline = or-right (trivia t) _ g; no-lparen = or-right (trivia t || newline t) _ f }
 
 -- The lines with a directive or with no word, and the groups, behind HASH and its trivia.
 abbrev pub Line : Rel
@@ -70,14 +57,15 @@ module _ (n : ℕ) where
   clean-empty at-end = record { clear = (refl, refl) }
 
   pub clean-word : {t : Leaf} {r : Rest} {L R : List Leaf}
-      → Wordy t → rest-after words (unescaped (t .bytes)) ≡ some r → (rest-of r ⨟ t* ⨟ Eol) L R
+      → word-leaf t ≡ true → rest-after words (unescaped (t .bytes)) ≡ some r → (rest-of r ⨟ t* ⨟ Eol) L R
       → Clean line (t ∷ L) R
   unfolding directive
-  clean-word {t} {r} {L} {R} h q g = go (named (directives n id) (unescaped (t .bytes))) refl (rw q at (agreed t n (unescaped (t .bytes))))
+  clean-word {t} {r} {L} {R} p q g = go (named (directives n id) (unescaped (t .bytes))) refl (rw q at (agreed t n (unescaped (t .bytes))))
     where
       go : (o : Option Directive) → named (directives n id) (unescaped (t .bytes)) ≡ o → Agree t (some r) o → Clean line (t ∷ L) R
       go (some d) e (both x) =
-          record { clear = rw (at-word t L d (h .no-newline) (h .no-lparen) e) (clean-then bump (d .reads then tail t) clean-bump (x .to g) .clear) }
+          let f = none-pass (trivia t) (newline t) (lparen t) p in
+          record { clear = rw (at-word t L d (f .1) (f .2) e) (clean-then bump (d .reads then tail t) clean-bump (x .to g) .clear) }
 
   pub line-clean : (L : List Leaf) {R : List Leaf} → peek trivia L ≡ false → Clean line L R → Group L R ⊎ Line L R
   unfolding control-line nothing bump peek directive unknown

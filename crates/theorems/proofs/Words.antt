@@ -22,7 +22,7 @@ unfolding peek
 eol-not p h (at-newline {t = t} e) = h t e
 eol-not p h at-end = refl
 
-solid-eol : Solid Eol
+pub solid-eol : Solid Eol
 solid-eol = record { begins = λ e. eol-not trivia (λ t h. rw (of-kind t h)) e }
 
 module _ (w : Leaf) where
