@@ -1,13 +1,12 @@
--- Readers that meet no error, and what they leave.
+-- Readers that meet no error, and what they leave. Here and below `clean-x` says that x is read with no error, `x-clean` that what is read so is x.
 use Prim.Native.Nat.{ℕ}
 use mathlib.Core.Path.{_≡_, refl, ap, sym}
 use mathlib.Core.Bool.{Bool, true, false, not, _||_, true≢false}
 use mathlib.Core.List.{List, [], _∷_, _++_, cons-ne-nil}
-use mathlib.Core.Logic.{_⊎_, inl, inr}
 use borrow.Author.Tests.{eqb-true, not-true}
 use Rattle.definition.specs.Tree.{Leaf}
 use Rattle.definition.specs.Error.{Err}
-use Rattle.definition.specs.Parser.{is, trivia, newline, inline, after, peek, Got, Reader, _then_, skip, skip-trivia, nothing, bump, maybe}
+use Rattle.definition.specs.Parser.{is, trivia, newline, inline, after, peek, Got, Reader, _then_, skip, skip-trivia, bump}
 use Rattle.definition.specs.Grammar.{Many, no-more, one-more, t*}
 
 -- A reading with no error that leaves R, and a reader that reads L so.
@@ -102,6 +101,7 @@ inline-after L =
     let s = skipped inline (after trivia L) in
     sym (after-many (many-many (many-inline (skipped trivia L .passed)) (s .passed)) (s .next))
 
+-- Skipping meets no error.
 pub clean-skip : {p : Leaf → Bool} {L R : List Leaf} → Many p L R → peek p R ≡ false → Clean (skip p) L R
 unfolding skip
 clean-skip m h = record { clear = (refl, after-many m h) }
@@ -122,21 +122,3 @@ clean-bump = record { clear = (refl, refl) }
 pub bump-clean : (q : Reader) {t : Leaf} {L R : List Leaf} → Clean (bump then q) (t ∷ L) R → Clean q L R
 unfolding _then_ bump
 bump-clean q c = record { clear = c .clear }
-
--- What may be there is read exactly if its first leaf is there.
-module _ (p : Leaf → Bool) (r : Reader) where
-  pub maybe-there : {L R : List Leaf} → peek p L ≡ true → Clean r L R → Clean (maybe p r) L R
-  unfolding maybe
-  maybe-there e c = record { clear = rw (e, maybe) (c .clear) }
-
-  pub maybe-not : {L : List Leaf} → peek p L ≡ false → Clean (maybe p r) L L
-  unfolding maybe nothing
-  maybe-not e = record { clear = rw (e, maybe) (refl, refl) }
-
-  pub maybe-clean : {L R : List Leaf} → Clean (maybe p r) L R → ((peek p L ≡ true) × Clean r L R) ⊎ ((peek p L ≡ false) × (L ≡ R))
-  unfolding maybe nothing
-  maybe-clean {L} {R} c = go (peek p L) refl
-    where
-      go : (b : Bool) → peek p L ≡ b → ((peek p L ≡ true) × Clean r L R) ⊎ ((peek p L ≡ false) × (L ≡ R))
-      go true e = inl (e, record { clear = rw (e, maybe) at (c .clear) })
-      go false e = inr (e, rw (e, maybe) at (c .clear .1))

@@ -1,17 +1,15 @@
 -- Readers that are clean exactly on their grammar.
-use Prim.Native.Nat.{ℕ, zero, suc}
-use mathlib.Core.Path.{_≡_, refl, ap, sym, _∙_, subst}
-use mathlib.Core.Bool.{Bool, true, false, not, _||_, true≢false}
+use Prim.Native.Nat.{ℕ}
+use mathlib.Core.Path.{_≡_, refl, subst}
+use mathlib.Core.Bool.{Bool, true, false, _||_}
 use mathlib.Core.List.{List, [], _∷_, cons-ne-nil, append-assoc}
-use mathlib.Core.Option.{Option, none, some}
-use mathlib.Core.Logic.{_⊎_, inl, inr}
 use lib.Dec.{eqb}
 use Rattle.definition.specs.SyntaxKind.{Kind}
 use Rattle.definition.specs.Tree.{Leaf}
-use Rattle.definition.specs.Parser.{is, trivia, newline, inline, peek, push, raise, Reader, _then_, wrap, skip-trivia, nothing, bump, maybe, expect-one}
-use Rattle.definition.specs.Syntax.{ident, wanted, args, define-args, pp-if-ident, colon, pp-extension, depth, pp-rs-ident}
-use Rattle.definition.specs.Grammar.{One, one, Many, _⨟_, _⨾_, Nothing, empty, t*, IDENT_KW, lparen, rparen, Closes, closed, inner, opened, passed, Params, ended, space, name, comma, Args, object, function, Rest, rest-of}
-use Rattle.theorems.proofs.Clean.{Clear, Clean, clean-then, then-clean, of-kind, or-left, or-right, clean-trivia, trivia-clean, bump-clean, maybe-there, maybe-not, maybe-clean}
+use Rattle.definition.specs.Parser.{is, trivia, peek, Reader, _then_, wrap, skip-trivia, nothing, bump, maybe, expect-one}
+use Rattle.definition.specs.Syntax.{ident, pp-if-ident, colon, pp-extension}
+use Rattle.definition.specs.Grammar.{One, one, _⨟_, _⨾_, Nothing, empty, t*, IDENT_KW, Rest, rest-of}
+use Rattle.theorems.proofs.Clean.{Clean, clean-then, then-clean, of-kind, clean-trivia, trivia-clean}
 
 -- A grammar says of L and R that L begins with it and that R follows.
 abbrev pub Rel : Type 1
@@ -34,6 +32,7 @@ exact-assoc p q r {G} {H} {I} x = record { to = to; from = λ c. from (x .from (
   where
     to : {L R : List Leaf} → ((G ⨟ H) ⨟ I) L R → Clean ((p then q) then r) L R
     to ((g ⨾ h) ⨾ i) = record { clear = rw append-assoc (x .to (g ⨾ h ⨾ i) .clear) }
+
     from : {L R : List Leaf} → (G ⨟ H ⨟ I) L R → ((G ⨟ H) ⨟ I) L R
     from (g ⨾ h ⨾ i) = (g ⨾ h) ⨾ i
 
@@ -75,6 +74,27 @@ exact-nothing = record { to = to; from = λ {L} c. rw (← c .clear .1) empty }
     to : {L R : List Leaf} → Nothing L R → Clean nothing L R
     to empty = record { clear = (refl, refl) }
 
+-- What may be there is read exactly if its first leaf is there.
+pub data If (p : Leaf → Bool) (r : Reader) : List Leaf → List Leaf → Type 0 where
+  there : {t : Leaf} {L R : List Leaf} → p t ≡ true → Clean r (t ∷ L) R → If p r (t ∷ L) R
+  not-there : {L : List Leaf} → peek p L ≡ false → If p r L L
+
+pub exact-maybe : (p : Leaf → Bool) (r : Reader) → Exact (maybe p r) (If p r)
+unfolding maybe nothing peek
+exact-maybe p r = record { to = to; from = λ {L} c. from L c }
+  where
+    to : {L R : List Leaf} → If p r L R → Clean (maybe p r) L R
+    to (there e c) = record { clear = rw (e, maybe) (c .clear) }
+    to (not-there e) = record { clear = rw (e, maybe) (refl, refl) }
+
+    from : (L : List Leaf) {R : List Leaf} → Clean (maybe p r) L R → If p r L R
+    from [] c = subst (If p r []) (c .clear .1) (not-there refl)
+    from (t ∷ L) {R} c = go (p t) refl
+      where
+        go : (b : Bool) → p t ≡ b → If p r (t ∷ L) R
+        go true e = there e (record { clear = rw (e, maybe) at (c .clear) })
+        go false e = subst (If p r (t ∷ L)) (rw (e, maybe) at (c .clear .1)) (not-there e)
+
 -- One leaf of a kind.
 pub exact-one : (n k : ℕ) → Exact (expect-one n k) (One (is k))
 unfolding expect-one
@@ -82,6 +102,7 @@ exact-one n k = record { to = to; from = λ {L} c. from L c }
   where
     to : {L R : List Leaf} → One (is k) L R → Clean (expect-one n k) L R
     to (one e) = record { clear = rw (e, expect-one) (refl, refl) }
+
     from : (L : List Leaf) {R : List Leaf} → Clean (expect-one n k) L R → One (is k) L R
     from [] c = absurd (cons-ne-nil _ _ (c .clear .0))
     from (t ∷ L) {R} c = go (is k t) refl
@@ -97,6 +118,7 @@ exact-colon n r {G} x = record { to = to; from = λ {L} c. from L c }
   where
     to : {L R : List Leaf} → (One (is Kind.COLON) ⨟ G) L R → Clean (colon n r) L R
     to (one e ⨾ g) = record { clear = rw (e, colon) (x .to g .clear) }
+
     from : (L : List Leaf) {R : List Leaf} → Clean (colon n r) L R → (One (is Kind.COLON) ⨟ G) L R
     from [] c = absurd (cons-ne-nil _ _ (c .clear .0))
     from (t ∷ L) {R} c = go (is Kind.COLON t) refl
@@ -105,6 +127,7 @@ exact-colon n r {G} x = record { to = to; from = λ {L} c. from L c }
         go true e = one e ⨾ x .from (record { clear = rw (e, colon) at (c .clear) })
         go false e = absurd (cons-ne-nil _ _ (rw (e, colon) at (c .clear .0)))
 
+-- The rests that are an identifier, or two with a colon between them.
 module _ (n : ℕ) where
   pub exact-ident : Exact (ident n) IDENT_KW
   exact-ident = exact-one n Kind.IDENT_KW
@@ -116,4 +139,6 @@ module _ (n : ℕ) where
   pub exact-extension : Exact (pp-extension n) (rest-of Rest.extension)
   unfolding pp-extension
   exact-extension =
-      exact-lead _ (exact-then _ _ exact-ident (exact-lead _ (exact-colon n _ (exact-lead _ exact-ident solid-ident)) (solid-then (solid-one _ refl)))) (solid-then solid-ident)
+      let after-colon = exact-lead _ exact-ident solid-ident in
+      let after-name = exact-lead _ (exact-colon n _ after-colon) (solid-then (solid-one _ refl)) in
+      exact-lead _ (exact-then _ _ exact-ident after-name) (solid-then solid-ident)

@@ -1,18 +1,17 @@
--- The arguments of a define and the groups are read exactly.
+-- The arguments of a `define`, and groups, are read exactly.
 use Prim.Native.Nat.{ℕ, zero, suc}
-use mathlib.Core.Path.{_≡_, refl, sym, subst}
-use mathlib.Core.Bool.{Bool, true, false, not, _||_, true≢false}
+use mathlib.Core.Path.{_≡_, refl, subst}
+use mathlib.Core.Bool.{Bool, true, false, not, _||_}
 use mathlib.Core.List.{List, [], _∷_, cons-ne-nil}
-use mathlib.Core.Option.{Option, none, some}
-use mathlib.Core.Logic.{_⊎_, inl, inr}
-use Rattle.definition.specs.SyntaxKind.{Kind}
+use mathlib.Core.Option.{none, some}
 use Rattle.definition.specs.Tree.{Leaf}
-use Rattle.definition.specs.Parser.{is, trivia, peek, _then_, nothing, bump, maybe}
+use Rattle.definition.specs.Parser.{is, trivia, _then_, nothing, bump, maybe}
 use Rattle.definition.specs.Syntax.{wanted, args, define-args, depth, pp-rs-ident}
 use Rattle.definition.specs.Grammar.{lparen, rparen, Closes, closed, inner, opened, passed, Params, ended, space, name, comma, Args, object, function}
-use Rattle.theorems.proofs.Clean.{Clear, Clean, of-kind, or-left, or-right, maybe-there, maybe-not, maybe-clean}
-use Rattle.theorems.proofs.Exact.{Exact}
+use Rattle.theorems.proofs.Clean.{Clear, Clean, of-kind, or-left, or-right}
+use Rattle.theorems.proofs.Exact.{Exact, If, there, not-there, exact-maybe}
 
+-- The list of arguments behind its LPAREN.
 module _ (n : ℕ) where
   clean-params : {b : Bool} {L R : List Leaf} → Params b L R → Clean (args n b) L R
   unfolding args nothing
@@ -21,36 +20,39 @@ module _ (n : ℕ) where
   clean-params (name {t = t} e p) = record { clear = rw (of-kind t e, args) (clean-params p .clear) }
   clean-params (comma {t = t} e p) = record { clear = rw (of-kind t e, args) (clean-params p .clear) }
 
-  -- A leaf that is wanted where it stands.
-  good : (b : Bool) {t : Leaf} {L R : List Leaf} → is (wanted b) t ≡ true → Params (not b) L R → Params b (t ∷ L) R
-  good true e p = name e p
-  good false e p = comma e p
+  -- An identifier or a comma in its place.
+  in-place : (b : Bool) {t : Leaf} {L R : List Leaf} → is (wanted b) t ≡ true → Params (not b) L R → Params b (t ∷ L) R
+  in-place true e p = name e p
+  in-place false e p = comma e p
 
   params-clean : (b : Bool) (L : List Leaf) {R : List Leaf} → Clean (args n b) L R → Params b L R
   unfolding args nothing
   params-clean b [] c = absurd (cons-ne-nil _ _ (c .clear .0))
-  params-clean b (t ∷ L) {R} c = go (trivia t) refl (is Kind.RPAREN t) refl (is (wanted b) t) refl (λ d h. params-clean d L h)
+  params-clean b (t ∷ L) {R} c = go (trivia t) refl (rparen t) refl (is (wanted b) t) refl (λ d h. params-clean d L (record { clear = h }))
     where
-      go : (x : Bool) → trivia t ≡ x → (y : Bool) → is Kind.RPAREN t ≡ y → (z : Bool) → is (wanted b) t ≡ z
-          → ((d : Bool) → Clean (args n d) L R → Params d L R)
+      go : (x : Bool) → trivia t ≡ x → (y : Bool) → rparen t ≡ y → (z : Bool) → is (wanted b) t ≡ z
+          → ((d : Bool) → Clear (args n d L) R → Params d L R)
           → Params b (t ∷ L) R
-      go true e y f z g ih = space e (ih b (record { clear = rw (e, args) at (c .clear) }))
+      go true e y f z g ih = space e (ih b (rw (e, args) at (c .clear)))
       go false e true f z g ih = subst (Params b (t ∷ L)) (rw (e, args, f) at (c .clear .1)) (ended f)
-      go false e false f true g ih = good b g (ih (not b) (record { clear = rw (e, args, f, g) at (c .clear) }))
+      go false e false f true g ih = in-place b g (ih (not b) (rw (e, args, f, g) at (c .clear)))
       go false e false f false g ih = absurd (cons-ne-nil _ _ (rw (e, args, f, g) at (c .clear .0)))
 
   -- Arguments if an LPAREN follows, and else none.
   pub exact-args : Exact (maybe lparen (define-args n)) Args
-  unfolding define-args _then_ bump peek
-  exact-args = record { to = to; from = λ {L} c. from L (maybe-clean _ _ c) }
+  unfolding define-args _then_ bump
+  exact-args = record { to = to; from = λ c. from (x .from c) }
     where
+      x : Exact (maybe lparen (define-args n)) (If lparen (define-args n))
+      x = exact-maybe lparen (define-args n)
+
       to : {L R : List Leaf} → Args L R → Clean (maybe lparen (define-args n)) L R
-      to (object h) = maybe-not _ _ h
-      to (function e p) = maybe-there _ _ e (record { clear = clean-params p .clear })
-      from : (L : List Leaf) {R : List Leaf} → ((peek lparen L ≡ true) × Clean (define-args n) L R) ⊎ ((peek lparen L ≡ false) × (L ≡ R)) → Args L R
-      from L (inr h) = subst (Args L) (h .1) (object (h .0))
-      from [] (inl h) = absurd (true≢false (sym (h .0)))
-      from (t ∷ L) (inl h) = function (h .0) (params-clean true L (record { clear = h .1 .clear }))
+      to (object e) = x .to (not-there e)
+      to (function e p) = x .to (there e (record { clear = clean-params p .clear }))
+
+      from : {L R : List Leaf} → If lparen (define-args n) L R → Args L R
+      from (not-there e) = object e
+      from (there {L = L} e c) = function e (params-clean true L (record { clear = c .clear }))
 
 -- How a leaf changes the number of open brackets.
 module _ (t : Leaf) where
@@ -72,6 +74,7 @@ module _ (t : Leaf) where
   depth-passed zero e = rw (or-left (lparen t) (rparen t) e, or-right (lparen t) (rparen t) e)
   depth-passed (suc d) e = rw (or-left (lparen t) (rparen t) e, or-right (lparen t) (rparen t) e)
 
+-- A group behind its LPAREN.
 module _ (l : Leaf) where
   clean-group : {d : ℕ} {L R : List Leaf} → Closes d L R → Clean (pp-rs-ident l d) L R
   unfolding pp-rs-ident bump

@@ -1,7 +1,7 @@
--- An item is read with no error exactly when it is an item of the grammar, and then as that sort.
-use Prim.Native.Nat.{ℕ, zero, suc, _+_, _≤_}
+-- Leaves are read with no error exactly when they keep the grammar, and they are divided in at most one way.
+use Prim.Native.Nat.{ℕ, zero, suc, _≤_}
 use mathlib.Core.Path.{_≡_, refl, ap, sym, _∙_, subst}
-use mathlib.Core.Bool.{Bool, true, false, not, _||_}
+use mathlib.Core.Bool.{Bool, true, false, not}
 use mathlib.Core.List.{List, [], _∷_}
 use mathlib.Core.Option.{Option, none, some, Option·some-ne-none}
 use mathlib.Core.Logic.{_↔_, _⊎_, inl, inr}
@@ -13,9 +13,9 @@ use Rattle.definition.specs.SyntaxKind.{Kind}
 use Rattle.definition.specs.Tree.{Leaf}
 use Rattle.definition.specs.Parser.{is, trivia, newline, inline, after, peek, Reader, _then_, skip, skip-trivia, nothing, bump}
 use Rattle.definition.specs.Syntax.{hash-item, item, file}
-use Rattle.definition.specs.Grammar.{One, one, Many, no-more, one-more, _⨟_, _⨾_, Eol, at-newline, at-end, t*, lparen, text-leaf, no-word, a-word, Sort, blank, text, group, directive, Item, Cut, Division, Keeps}
+use Rattle.definition.specs.Grammar.{One, one, Many, no-more, one-more, _⨾_, Eol, at-newline, at-end, t*, lparen, no-word, a-word, Sort, blank, text, group, directive, Item, Cut, Division, Keeps}
 use Rattle.theorems.proofs.Clean.{Clean, Both, clean-then, then-clean, of-kind, none-pass, after-many, Skipped, skipped, many-many, clean-skip, clean-trivia, trivia-clean}
-use Rattle.theorems.proofs.Words.{eol-not, solid-eol, id}
+use Rattle.theorems.proofs.Words.{eol-is, eol-inline, solid-eol, id}
 use Rattle.theorems.proofs.Lines.{Line, Group, line, clean-group, clean-empty, clean-word, line-clean}
 use Rattle.theorems.proofs.Shorter.{item-shorter}
 
@@ -25,6 +25,7 @@ sort-of [] = none
 sort-of (t ∷ ts) =
     some (if newline t then blank else if is Kind.HASH t then (if peek lparen (after trivia ts) then group else directive) else text)
 
+-- The end of a line is taken with no error, and what stands behind a line's leaves is its end.
 clean-eol : {L R : List Leaf} → Eol L R → Clean bump L R
 unfolding bump
 clean-eol (at-newline e) = record { clear = (refl, refl) }
@@ -35,15 +36,21 @@ unfolding peek bump
 eol-clean [] h = at-end
 eol-clean (t ∷ L) h = at-newline (not-false (newline t) h)
 
+-- What is read where no HASH stands: all up to the end of a line.
 abbrev text-line : Reader
 text-line = skip-trivia then skip inline then bump
 
 clean-text-line : {L M N R : List Leaf} → t* L M → peek trivia M ≡ false → Many inline M N → Eol N R → Clean text-line L R
 clean-text-line m h k z =
-    clean-then skip-trivia (skip inline then bump) (clean-trivia m h) (clean-then (skip inline) bump (clean-skip k (eol-not inline (λ t e. ap not e) z)) (clean-eol z))
+    let c = clean-then (skip inline) bump (clean-skip k (eol-inline z)) (clean-eol z) in
+    clean-then skip-trivia (skip inline then bump) (clean-trivia m h) c
+
+text-clean : {L M R : List Leaf} → after trivia L ≡ M → Clean text-line L R → bump (after inline M) .rest ≡ R
+unfolding _then_ skip-trivia skip
+text-clean q c = rw q at (c .clear .1)
 
 module _ (n : ℕ) where
-  -- An item is read by the first leaf behind its trivia.
+  -- The first leaf behind an item's trivia says how it is read.
   plain-item : {L M R : List Leaf} → after trivia L ≡ M → peek (is Kind.HASH) M ≡ false → Clean text-line L R ↔ Clean (item n id) L R
   unfolding item
   plain-item q e = (λ c. record { clear = rw (q, item, e) (c .clear) }, λ c. record { clear = rw (q, item, e) at (c .clear) })
@@ -53,6 +60,7 @@ module _ (n : ℕ) where
   unfolding item hash-item peek _then_ bump skip-trivia skip
   hashed-item q e = (λ c. record { clear = rw (q, item, e) (c .clear) }, λ c. record { clear = rw (q, item, e) at (c .clear) })
 
+  -- An item of the grammar is read with no error, and its first leaves decide its sort.
   record Read-as (s : Sort) (L R : List Leaf) : Type 0 where
     clean : Clean (item n id) L R
     sorted : sort-of (after trivia L) ≡ some s
@@ -68,12 +76,14 @@ module _ (n : ℕ) where
       let j = many-many m k in
       record {
         clean = clean-then skip-trivia (line n) (clean-trivia j (solid-eol .begins z)) (clean-empty n z);
-        no-group = rw (after-many j (solid-eol .begins z)) (eol-not lparen (λ t e. rw (of-kind t e)) z) }
+        no-group = rw (after-many j (solid-eol .begins z)) (eol-is Kind.LPAREN refl z);
+      }
   clean-line m (a-word {t = t} e q r ⨾ k) =
       let f = none-pass (trivia t) (newline t) (lparen t) e in
       record {
         clean = clean-then skip-trivia (line n) (clean-trivia m (f .0)) (clean-word n e q (r ⨾ k));
-        no-group = rw (after-many m (f .0)) (f .2) }
+        no-group = rw (after-many m (f .0)) (f .2);
+      }
 
   clean-item : (s : Sort) {L R : List Leaf} → Item s L R → Read-as s L R
   unfolding peek sort-of
@@ -89,7 +99,8 @@ module _ (n : ℕ) where
       let r : after trivia M ≡ u ∷ N = after-many k (rw (of-kind u f)) in
       record {
         clean = hashed-item q e .0 (clean-then skip-trivia (line n) (clean-trivia k (rw (of-kind u f))) (clean-group n (one f ⨾ z)));
-        sorted = rw (q, sort-of, r, of-kind t e, f) }
+        sorted = rw (q, sort-of, r, of-kind t e, f);
+      }
   clean-item directive {L} (m ⨾ one {t = t} {R = M} e ⨾ k ⨾ c) =
       let q : after trivia L ≡ t ∷ M = after-many m (rw (of-kind t e)) in
       let d = clean-line k c in
@@ -100,10 +111,6 @@ module _ (n : ℕ) where
     sort : Sort
     it : Item sort L R
 
-  text-clean : {t : Leaf} {L M R : List Leaf} → after trivia L ≡ t ∷ M → Clean text-line L R → bump (after inline (t ∷ M)) .rest ≡ R
-  unfolding _then_ skip-trivia skip
-  text-clean q c = rw q at (c .clear .1)
-
   item-clean : (t : Leaf) (L M : List Leaf) {R : List Leaf} → after trivia L ≡ t ∷ M → Clean (item n id) L R → Found L R
   unfolding peek after bump
   item-clean t L M {R} q c = go (is Kind.HASH t) refl (newline t) refl (rw q at (skipped trivia L))
@@ -111,6 +118,7 @@ module _ (n : ℕ) where
       hashed : {N : List Leaf} → is Kind.HASH t ≡ true → t* L (t ∷ M) → t* M N → Group N R ⊎ Line N R → Found L R
       hashed e m k (inl g) = record { sort = group; it = m ⨾ one e ⨾ k ⨾ g }
       hashed e m k (inr d) = record { sort = directive; it = m ⨾ one e ⨾ k ⨾ d }
+
       go : (x : Bool) → is Kind.HASH t ≡ x → (y : Bool) → newline t ≡ y → Skipped trivia L (t ∷ M) → Found L R
       go true e y f s =
           let b = then-clean skip-trivia (line n) (hashed-item q e .1 c) in
@@ -122,7 +130,8 @@ module _ (n : ℕ) where
       go false e false f s =
           let r : bump (after inline M) .rest ≡ R = rw (f, after) at (text-clean q (plain-item q e .1 c)) in
           let k = skipped inline M in
-          record { sort = text; it = s .passed ⨾ one {t = t} (rw (s .next, e, f)) ⨾ k .passed ⨾ subst (Eol (after inline M)) r (eol-clean (after inline M) (k .next)) }
+          let z = subst (Eol (after inline M)) r (eol-clean (after inline M) (k .next)) in
+          record { sort = text; it = s .passed ⨾ one {t = t} (rw (s .next, e, f)) ⨾ k .passed ⨾ z }
 
   -- Trivia at the end is read with no error too.
   clean-last : (L : List Leaf) → t* L [] → Clean (item n id) L []
@@ -159,7 +168,7 @@ module _ (n : ℕ) where
           let k = ih (b .middle) (omega arith) (b .second .clear .0) in
           (record { sort = i .sort; behind = b .middle } ∷ k .0, (i .it, k .1))
 
--- Leaves are divided in at most one way: an item's sort and what it leaves are those of the reading.
+-- Leaves are divided in at most one way: an item's first leaves decide its sort, and the reading decides what is behind it.
 no-item : (c : Cut) {L : List Leaf} → Item (c .sort) L (c .behind) → t* L [] → ⊥
 unfolding peek sort-of
 no-item c i m = Option·some-ne-none (c .sort) (sym (clean-item 0 (c .sort) i .sorted) ∙ ap sort-of (after-many m refl))

@@ -1,32 +1,49 @@
 -- The rest of each directive's line is read exactly, and the tables of words agree.
 use Prim.Native.Nat.{ℕ}
 use mathlib.Core.Path.{_≡_, refl, ap, sym, _∙_, subst}
-use mathlib.Core.Bool.{Bool, true, false, not, true≢false}
+use mathlib.Core.Bool.{Bool, true, false, not}
 use mathlib.Core.List.{List, [], _∷_, cons-ne-nil}
 use mathlib.Core.Option.{Option, none, some}
-use mathlib.Core.Logic.{_⊎_, inl, inr}
+use lib.Dec.{eqb}
 use Rattle.definition.specs.Text.{same}
+use Rattle.definition.specs.Unescaped.{unescaped}
 use Rattle.definition.specs.SyntaxKind.{Kind}
 use Rattle.definition.specs.Tree.{Leaf}
 use Rattle.definition.specs.Error.{ErrorKind, named-error}
-use Rattle.definition.specs.Parser.{is, trivia, newline, inline, after, peek, Reader, _then_, wrap, skip, skip-trivia, nothing, bump, maybe}
+use Rattle.definition.specs.Parser.{is, trivia, newline, inline, peek, Reader, _then_, wrap, skip, skip-trivia, nothing, bump, maybe}
 use Rattle.definition.specs.Syntax.{body, pp-body, pp-define, pp-version, pp-include, extra, finish, Directive, named, directives}
-use Rattle.definition.specs.Grammar.{One, one, Many, no-more, _⨟_, _⨾_, Maybe, without, with-it, Eol, at-newline, at-end, t*, IDENT_KW, Rest, rest-of, Word, words, rest-after}
-use Rattle.theorems.proofs.Clean.{Clean, clean-then, then-clean, of-kind, after-many, skipped, many-many, many-inline, inline-after, clean-trivia, trivia-clean, maybe-there, maybe-not, maybe-clean}
-use Rattle.theorems.proofs.Exact.{Rel, Exact, exact-then, exact-assoc, Solid, exact-lead, solid-one, solid-ident, solid-then, exact-wrap, exact-nothing, exact-one, exact-ident, exact-if-ident, exact-extension}
+use Rattle.definition.specs.Grammar.{one, Many, no-more, _⨟_, _⨾_, Maybe, without, with-it, Eol, at-newline, at-end, t*, IDENT_KW, Rest, rest-of, Word, words, rest-after}
+use Rattle.theorems.proofs.Clean.{Clean, clean-then, then-clean, of-kind, after-many, skipped, many-many, many-inline, inline-after, clean-trivia, trivia-clean}
+use Rattle.theorems.proofs.Exact.{Rel, Exact, exact-then, exact-assoc, Solid, exact-lead, solid-one, solid-ident, solid-then, exact-wrap, exact-nothing, If, there, not-there, exact-maybe, exact-one, exact-ident, exact-if-ident, exact-extension}
 use Rattle.theorems.proofs.Groups.{exact-args}
 
--- At the end of a line stands no leaf of another kind.
-pub eol-not : (p : Leaf → Bool) → ((t : Leaf) → newline t ≡ true → p t ≡ false) → {L R : List Leaf} → Eol L R → peek p L ≡ false
+-- At the end of a line stands a NEWLINE or nothing.
+eol-not : (p : Leaf → Bool) → ((t : Leaf) → newline t ≡ true → p t ≡ false) → {L R : List Leaf} → Eol L R → peek p L ≡ false
 unfolding peek
 eol-not p h (at-newline {t = t} e) = h t e
 eol-not p h at-end = refl
 
-pub solid-eol : Solid Eol
-solid-eol = record { begins = λ e. eol-not trivia (λ t h. rw (of-kind t h)) e }
+pub eol-is : (k : ℕ) → eqb Kind.NEWLINE k ≡ false → {L R : List Leaf} → Eol L R → peek (is k) L ≡ false
+eol-is k h = eol-not (is k) (λ t e. rw (of-kind t e) h)
 
+pub eol-inline : {L R : List Leaf} → Eol L R → peek inline L ≡ false
+eol-inline = eol-not inline (λ t e. ap not e)
+
+pub solid-eol : Solid Eol
+solid-eol = record { begins = eol-not trivia (λ t e. rw (of-kind t e)) }
+
+-- The profile of a version, which may be absent.
+abbrev profile : Reader
+profile = maybe (is Kind.IDENT_KW) (wrap Kind.PP_VERSION_PROFILE bump)
+
+abbrev Profile : Rel
+Profile = If (is Kind.IDENT_KW) (wrap Kind.PP_VERSION_PROFILE bump)
+
+exact-profile : Exact profile Profile
+exact-profile = exact-maybe _ _
+
+-- What follows the rest of the directive with the word w: the end of its line.
 module _ (w : Leaf) where
-  -- What follows the rest of the directive with the word w: its line's end.
   abbrev pub ending : Reader
   ending = finish (λ t end. named-error ErrorKind.extra-tokens (t .start) end w ∷ [])
 
@@ -37,6 +54,7 @@ module _ (w : Leaf) where
       to : {L R : List Leaf} → Eol L R → Clean ending L R
       to (at-newline e) = record { clear = rw (e, finish) (refl, refl) }
       to at-end = record { clear = (refl, refl) }
+
       from : (L : List Leaf) {R : List Leaf} → Clean ending L R → Eol L R
       from [] c = subst (Eol []) (c .clear .1) at-end
       from (t ∷ L) {R} c = go (newline t) refl
@@ -71,47 +89,35 @@ module _ (w : Leaf) where
     where
       to : {L R : List Leaf} → (Many inline ⨟ t* ⨟ Eol) L R → Clean (pp-body k then tail) L R
       to {L} (m ⨾ j ⨾ e) =
-          let q = after-many (many-many m (many-inline j)) (eol-not inline (λ t h. ap not h) e) in
+          let q = after-many (many-many m (many-inline j)) (eol-inline e) in
           clean-then (pp-body k) tail (record { clear = (refl, inline-after L ∙ q) }) (exact-tail .to (no-more ⨾ e))
+
       from : {L R : List Leaf} → Clean (pp-body k then tail) L R → (Many inline ⨟ t* ⨟ Eol) L R
       from {L} c =
           let b = then-clean (pp-body k) tail c in
           subst (Many inline L) (sym (inline-after L) ∙ b .first .clear .1) (skipped inline L .passed) ⨾ exact-tail .from (b .second)
 
-  -- The profile of a version, which may be absent.
-  abbrev profile : Reader
-  profile = maybe (is Kind.IDENT_KW) (wrap Kind.PP_VERSION_PROFILE bump)
-
-  profile-there : {L R : List Leaf} → IDENT_KW L R → Clean profile L R
-  unfolding peek wrap bump
-  profile-there (one e) = maybe-there _ _ e (record { clear = (refl, refl) })
-
-  there-profile : (L : List Leaf) {R : List Leaf} → peek (is Kind.IDENT_KW) L ≡ true → Clean (wrap Kind.PP_VERSION_PROFILE bump) L R → IDENT_KW L R
-  unfolding peek wrap bump
-  there-profile [] e c = absurd (true≢false (sym e))
-  there-profile (t ∷ L) e c = subst (IDENT_KW (t ∷ L)) (c .clear .1) (one e)
-
   whole-profile : Whole (skip-trivia then profile) (Maybe (t* ⨟ IDENT_KW))
+  unfolding wrap bump peek
   whole-profile = record { to = to; from = from }
     where
+      read : {L M N R : List Leaf} → t* L M → peek trivia M ≡ false → Profile M N → (t* ⨟ Eol) N R → Clean ((skip-trivia then profile) then tail) L R
+      read m h x z = clean-then _ tail (clean-then skip-trivia profile (clean-trivia m h) (exact-profile .to x)) (exact-tail .to z)
+
       to : {L R : List Leaf} → (Maybe (t* ⨟ IDENT_KW) ⨟ t* ⨟ Eol) L R → Clean ((skip-trivia then profile) then tail) L R
-      to (without ⨾ j ⨾ e) =
-          let c = maybe-not _ _ (eol-not (is Kind.IDENT_KW) (λ t h. rw (of-kind t h)) e) in
-          clean-then _ tail (clean-then skip-trivia profile (clean-trivia j (solid-eol .begins e)) c) (exact-tail .to (no-more ⨾ e))
-      to (with-it (j ⨾ o) ⨾ m) = clean-then _ tail (clean-then skip-trivia profile (clean-trivia j (solid-ident .begins o)) (profile-there o)) (exact-tail .to m)
+      to (without ⨾ m ⨾ e) = read m (solid-eol .begins e) (not-there (eol-is Kind.IDENT_KW refl e)) (no-more ⨾ e)
+      to (with-it (m ⨾ one {t = t} e) ⨾ z) = read m (rw (of-kind t e)) (there e (record { clear = (refl, refl) })) z
+
+      found : {L M N R : List Leaf} → t* L M → Profile M N → (t* ⨟ Eol) N R → (Maybe (t* ⨟ IDENT_KW) ⨟ t* ⨟ Eol) L R
+      found m (there e c) z = with-it (m ⨾ subst (IDENT_KW _) (c .clear .1) (one e)) ⨾ z
+      found m (not-there e) (k ⨾ z) = without ⨾ many-many m k ⨾ z
+
       from : {L R : List Leaf} → Clean ((skip-trivia then profile) then tail) L R → (Maybe (t* ⨟ IDENT_KW) ⨟ t* ⨟ Eol) L R
-      from {L} {R} c =
+      from c =
           let b = then-clean (skip-trivia then profile) tail c in
           let d = then-clean skip-trivia profile (b .first) in
-          go (d .middle) (trivia-clean (d .first) .passed) (maybe-clean _ _ (d .second)) (exact-tail .from (b .second))
-        where
-          go : (M : List Leaf) {N : List Leaf} → t* L M
-              → ((peek (is Kind.IDENT_KW) M ≡ true) × Clean (wrap Kind.PP_VERSION_PROFILE bump) M N) ⊎ ((peek (is Kind.IDENT_KW) M ≡ false) × (M ≡ N))
-              → (t* ⨟ Eol) N R → (Maybe (t* ⨟ IDENT_KW) ⨟ t* ⨟ Eol) L R
-          go M j (inl h) m = with-it (j ⨾ there-profile M (h .0) (h .1)) ⨾ m
-          go M j (inr h) (k ⨾ e) = without ⨾ many-many (rw (h .1) at j) k ⨾ e
+          found (trivia-clean (d .first) .passed) (exact-profile .from (d .second)) (exact-tail .from (b .second))
 
-  -- The rests that are read by a word.
   whole-version : (n : ℕ) → Whole (pp-version n) (rest-of Rest.version)
   unfolding pp-version
   whole-version n = whole-lead _ (whole-then _ _ (exact-wrap _ _ (exact-one n Kind.DIGITS)) whole-profile) (solid-then (solid-one _ refl))
@@ -120,7 +126,7 @@ module _ (w : Leaf) where
   unfolding pp-define
   whole-define n = whole-lead _ (whole-then _ _ (exact-ident n) (whole-then _ _ (exact-args n) (whole-body _))) (solid-then solid-ident)
 
--- The reader that lexes nothing again.
+-- Leaves as they stand: nothing is lexed again.
 unfoldable pub id : List Leaf → List Leaf
 id ts = ts
 
@@ -154,5 +160,12 @@ agree w (_⋮_ {s = v} {r} {k} {p} {xs} {ds} g h) s = go (same v s) refl (agree 
     go true e ih = rw (e, rest-after, named) (both g)
     go false e ih = rw (e, rest-after, named) ih
 
-pub agreed : (w : Leaf) (n : ℕ) (s : List ℕ) → Agree w (rest-after words s) (named (directives n id) s)
-agreed w n s = agree w (aligned w n) s
+-- The rest that the grammar asks for behind a word, and the directive of that word.
+abbrev pub rest-behind : Leaf → Option Rest
+rest-behind t = rest-after words (unescaped (t .bytes))
+
+abbrev pub directive-of : ℕ → Leaf → Option Directive
+directive-of n t = named (directives n id) (unescaped (t .bytes))
+
+pub agreed : (n : ℕ) (t : Leaf) → Agree t (rest-behind t) (directive-of n t)
+agreed n t = agree t (aligned t n) (unescaped (t .bytes))
