@@ -97,6 +97,7 @@ module _ (w : Leaf) where
           let b = then-clean (pp-body k) tail c in
           subst (Many inline L) (sym (inline-after L) ∙ b .first .clear .1) (skipped inline L .passed) ⨾ exact-tail .from (b .second)
 
+  -- The rests of a version and of a define.
   whole-profile : Whole (skip-trivia then profile) (Maybe (t* ⨟ IDENT_KW))
   unfolding wrap bump peek
   whole-profile = record { to = to; from = from }
