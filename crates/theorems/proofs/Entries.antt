@@ -9,6 +9,7 @@ use lib.ListN.{length, take, drop, getD, length-append}
 use lib.Seq.{slice, take-nil, drop-drop, take-append-seam, drop-append-seam}
 use lib.Dec.{eqb}
 use Rattle.definition.specs.Tree.{Leaf, long, bytes, Forest, nil, leaf, node, _▹_, leaves, size, Entry, Form, entries, entry-numbers}
+use Rattle.theorems.proofs.Tiling.Leaves.{bytes-append}
 use Rattle.theorems.specs.Placed.{Placed}
 use Rattle.theorems.specs.Demand3.{entries-in, leaf-entries, leaf-of, Follow}
 
@@ -108,11 +109,6 @@ pub chain-last : (a b : ℕ) (l es : List Entry) (e : Entry) → Chain a l b →
 chain-last a b l es e h q = chain-end a b es e (rw q at h)
 
 -- The leaves of the entries, with the source's bytes from start to end, are the leaves of the trees.
-pub bytes-++ : (a b : List Leaf) → bytes (a ++ b) ≡ bytes a ++ bytes b
-unfolding bytes
-bytes-++ [] b = refl
-bytes-++ (t ∷ a) b = rw (bytes-++ a b) (sym (append-assoc (t .bytes) (bytes a) (bytes b)))
-
 pub length-bytes : (f : Forest) → length (bytes (leaves f)) ≡ size f
 unfolding bytes leaves size
 length-bytes nil = refl
@@ -120,7 +116,7 @@ length-bytes (leaf t f) = length-append (t .bytes) (bytes (leaves f)) ∙ ap (λ
 length-bytes (node k c f) =
     let x : length (bytes (leaves c)) ≡ size c = length-bytes c in
     let y : length (bytes (leaves f)) ≡ size f = length-bytes f in
-    rw (bytes-++ (leaves c) (leaves f), length-append (bytes (leaves c)) (bytes (leaves f))) (omega arith)
+    rw (bytes-append (leaves c) (leaves f), length-append (bytes (leaves c)) (bytes (leaves f))) (omega arith)
 
 slice-take : (a n : ℕ) (l : List ℕ) → slice a (a + n) l ≡ take n (drop a l)
 slice-take zero n l = rw (zero-add n) refl
@@ -164,7 +160,7 @@ leaves-back src l a (leaf t f) b p =
     = leaves-back src l (a + long t) f (begins-after src a (t .bytes) (bytes (leaves f)) b) (p .2) in
     λ i. record { kind = t .kind; start = y i; bytes = x i } ∷ z i
 leaves-back src l a (node k c f) b p =
-    let b′ : Begins src a (bytes (leaves c) ++ bytes (leaves f)) = rw (bytes-++ (leaves c) (leaves f)) at b in
+    let b′ : Begins src a (bytes (leaves c) ++ bytes (leaves f)) = rw (bytes-append (leaves c) (leaves f)) at b in
     let x : map (leaf-of src) (leaf-entries (entries (l + 1) a c)) ≡ leaves c
     = leaves-back src (l + 1) a c (begins-front src a (bytes (leaves c)) (bytes (leaves f)) b′) (placed-front a (leaves c) (leaves f) p) in
     let y : map (leaf-of src) (leaf-entries (entries l (a + size c) f)) ≡ leaves f

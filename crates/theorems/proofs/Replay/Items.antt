@@ -8,12 +8,13 @@ use Rattle.definition.specs.SyntaxKind.{Kind}
 use Rattle.definition.specs.Tree.{Leaf, Forest, leaf, row, _▹_, leaves}
 use Rattle.definition.specs.Parser.{is, trivia, inline, while, after, peek, Reader, _then_, skip, skip-trivia, nothing, bump}
 use Rattle.definition.specs.Syntax.{Line, control-line, hash-item, item, file}
-use Rattle.theorems.proofs.Plain.{id}
-use Rattle.theorems.proofs.TilingLeaves.{leaves-▹, leaves-row, while-after, peek-after, while-again, after-again}
-use Rattle.theorems.proofs.TilingSteady.{Heads, heads-self, heads-nil, heads-cons, peek-heads, stops, Steady, steady-then, steady-nothing, steady-skip, steady-bump}
-use Rattle.theorems.proofs.Tiling.{Recut}
-use Rattle.theorems.proofs.ReplayLaws.{Retold, retold-steady, retold-like, retold-then, lined, Retold-line, retold-lined, shut, retold-shut}
-use Rattle.theorems.proofs.ReplayLines.{line-retold}
+use Rattle.theorems.proofs.Grammar.Plain.{id}
+use Rattle.theorems.proofs.Grammar.Clean.{peek-after}
+use Rattle.theorems.proofs.Tiling.Leaves.{leaves-▹, leaves-row, while-after, while-again, after-again}
+use Rattle.theorems.proofs.Tiling.Steady.{Heads, heads-self, heads-nil, heads-cons, peek-heads, stops, Steady, steady-then, steady-nothing, steady-skip, steady-bump}
+use Rattle.theorems.proofs.Tiling.Tiles.{Recut}
+use Rattle.theorems.proofs.Replay.Laws.{Retold, retold-steady, retold-like, retold-then, lined, Retold-line, retold-lined, shut, retold-shut}
+use Rattle.theorems.proofs.Replay.Lines.{line-retold}
 
 -- A line of text, as a line without a node.
 text : Reader

@@ -7,7 +7,7 @@ use Rattle.definition.specs.Runs.{Run, joined, grouped}
 use Rattle.definition.specs.Newline.{chars, char-more}
 use Rattle.definition.specs.Pre.{pres, Pre, pre-begin, pre-more}
 use Rattle.definition.specs.Glue.{Token, tokens, pre-kind, flat, glued, glues}
-use Rattle.theorems.proofs.Runs.{joined-append, joined-grouped}
+use Rattle.theorems.proofs.Lexing.Runs.{joined-append, joined-grouped}
 
 module _ {S : Type 0} (k : Run Token S → ℕ) where
   pub joined-flat : (rs : List (Run Token S)) → joined (map (flat k) rs) ≡ joined (joined rs)

@@ -11,11 +11,11 @@ use Rattle.definition.specs.Tree.{Leaf, _▹_}
 use Rattle.definition.specs.Error.{Err, ErrorKind, named-error}
 use Rattle.definition.specs.Parser.{is, newline, Got, push, Reader, _then_, skip-trivia, nothing, bump}
 use Rattle.definition.specs.Syntax.{pp-body, pp-include, finish, Directive, directives, named, directive, unknown, pp-rs-ident, control-line}
-use Rattle.theorems.proofs.Plain.{id}
-use Rattle.theorems.proofs.TilingSteady.{Heads, heads-nil, heads-cons, Again, starts-same, again-then, Steady-at, Steady, steady-then, steady-nothing, steady-trivia, steady-bump}
-use Rattle.theorems.proofs.TilingPlain.{steady-pp-body, steady-define, steady-if-ident, steady-version, steady-extension, steady-finish, steady-unknown, steady-group}
-use Rattle.theorems.proofs.Tiling.{Recut, recut-twice, Tiled, tiles-steady, tiles-then}
-use Rattle.theorems.proofs.ReplayLaws.{Retold, retold-steady, retold-push, lined, Retold-line, retold-lined}
+use Rattle.theorems.proofs.Grammar.Plain.{id}
+use Rattle.theorems.proofs.Tiling.Steady.{Heads, heads-nil, heads-cons, Again, starts-same, again-then, Steady-at, Steady, steady-then, steady-nothing, steady-trivia, steady-bump}
+use Rattle.theorems.proofs.Tiling.Readers.{steady-pp-body, steady-define, steady-if-ident, steady-version, steady-extension, steady-finish, steady-unknown, steady-group}
+use Rattle.theorems.proofs.Tiling.Tiles.{Recut, recut-twice, Tiled, tiles-steady, tiles-then}
+use Rattle.theorems.proofs.Replay.Laws.{Retold, retold-steady, retold-push, lined, Retold-line, retold-lined}
 
 -- Two directives of one word and node, of which the second reads again what the first has read.
 record Kin (c d : Directive) : Type 0 where

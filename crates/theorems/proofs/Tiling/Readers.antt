@@ -9,8 +9,8 @@ use Rattle.definition.specs.Tree.{Leaf, Forest, nil, leaf, node, _▹_, leaves,
 use Rattle.definition.specs.Error.{Err, unexpected, end-of-input}
 use Rattle.definition.specs.Parser.{is, trivia, newline, inline, while, push, raise, Reader, _then_, wrap, nothing, bump, expect-one}
 use Rattle.definition.specs.Syntax.{pp-tokens, trimmed, trailing, body, pp-body, wanted, arg-kinds, push-arg, args, define-args, pp-define, pp-if-ident, pp-version, colon, pp-extension, last-stop, extra, finish, unknown, depth, pp-rs-ident}
-use Rattle.theorems.proofs.TilingLeaves.{leaves-pp-tokens, leaves-row, trimmed-trailing}
-use Rattle.theorems.proofs.TilingSteady.{Steady-at, Steady, steady-then, steady-over, steady-wrap, steady-raise, steady-still, steady-nothing, steady-while, steady-trivia, steady-like-nil, steady-like-cons, steady-maybe, pushing, steady-push, steady-bump}
+use Rattle.theorems.proofs.Tiling.Leaves.{leaves-pp-tokens, leaves-row, trimmed-trailing}
+use Rattle.theorems.proofs.Tiling.Steady.{Steady-at, Steady, steady-then, steady-over, steady-wrap, steady-raise, steady-still, steady-nothing, steady-while, steady-trivia, steady-like-nil, steady-like-cons, steady-maybe, pushing, steady-push, steady-bump}
 
 -- Nothing taken, and some errors.
 abbrev still : List Err → Reader

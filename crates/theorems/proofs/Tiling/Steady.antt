@@ -8,7 +8,8 @@ use native.Mathlib.Omega.{arith}
 use Rattle.definition.specs.Tree.{Leaf, Forest, nil, leaf, node, _▹_, leaves, row}
 use Rattle.definition.specs.Error.{Err}
 use Rattle.definition.specs.Parser.{trivia, while, after, peek, Got, raise, Reader, _then_, wrap, skip, skip-trivia, nothing, bump, maybe}
-use Rattle.theorems.proofs.TilingLeaves.{leaves-▹, leaves-row, while-after, peek-after, while-again, after-again}
+use Rattle.theorems.proofs.Grammar.Clean.{peek-after}
+use Rattle.theorems.proofs.Tiling.Leaves.{leaves-▹, leaves-row, while-after, while-again, after-again}
 
 -- Two rows that are both empty or have the same first leaf.
 abbrev pub Heads : List Leaf → List Leaf → Type 0

@@ -7,9 +7,9 @@ use Rattle.definition.specs.Tree.{Leaf, Forest, nil, leaf, node, leaves}
 use Rattle.definition.specs.Error.{Err}
 use Rattle.definition.specs.Parser.{Got, Reader, _then_}
 use Rattle.definition.specs.Syntax.{Line}
-use Rattle.theorems.proofs.TilingLeaves.{leaves-▹}
-use Rattle.theorems.proofs.TilingSteady.{Heads, heads-append, leaving, Starts, Again, starts-same, again-then, Steady-at, pushing, starts-push, again-push}
-use Rattle.theorems.proofs.Tiling.{recut-same, recut-twice, recut-behind, Tiles, tiles-steady, tiles-then, tiles-push}
+use Rattle.theorems.proofs.Tiling.Leaves.{leaves-▹}
+use Rattle.theorems.proofs.Tiling.Steady.{Heads, heads-append, leaving, Starts, Again, starts-same, again-then, Steady-at, pushing, starts-push, again-push}
+use Rattle.theorems.proofs.Tiling.Tiles.{recut-same, recut-twice, recut-behind, Tiles, tiles-steady, tiles-then, tiles-push}
 
 -- The reader q tells what was got from the row again.
 pub record Retold (q : Reader) (g : Got) (ts : List Leaf) : Type 0 where

@@ -4,7 +4,7 @@ use mathlib.Core.Bool.{Bool, true, false, not, _&&_}
 use mathlib.Core.List.{List, [], _∷_, _++_, append-assoc, append-nil}
 use Rattle.definition.specs.Text.{if_then_else_}
 use Rattle.definition.specs.SyntaxKind.{Kind}
-use Rattle.definition.specs.Tree.{Leaf, Forest, nil, leaf, node, _▹_, leaves, row}
+use Rattle.definition.specs.Tree.{Leaf, bytes, Forest, nil, leaf, node, _▹_, leaves, row}
 use Rattle.definition.specs.Parser.{is, trivia, while, after, peek}
 use Rattle.definition.specs.Syntax.{nest, wrapped, pasted, pp-tokens-from, pp-tokens, all-trivia, trimmed, trailing}
 
@@ -53,15 +53,6 @@ module _ (p : Leaf → Bool) where
       go : (b : Bool) → p t ≡ b → while p ts ++ after p ts ≡ ts → while p (t ∷ ts) ++ after p (t ∷ ts) ≡ t ∷ ts
       go true e ih = rw (e, while, after) (ap (λ l. t ∷ l) ih)
       go false e ih = rw (e, while, after) refl
-
-  pub peek-after : (ts : List Leaf) → peek p (after p ts) ≡ false
-  unfolding after peek
-  peek-after [] = refl
-  peek-after (t ∷ ts) = go (p t) refl (peek-after ts)
-    where
-      go : (b : Bool) → p t ≡ b → peek p (after p ts) ≡ false → peek p (after p (t ∷ ts)) ≡ false
-      go true e ih = rw (e, after) ih
-      go false e ih = rw (e, after) e
 
   -- The leading leaves, before another row that begins with no leaf that passes.
   pub while-again : (ts us : List Leaf) → peek p us ≡ false → while p (while p ts ++ us) ≡ while p ts
@@ -125,3 +116,9 @@ leaves-pp-tokens-from (t ∷ ts) =
 pub leaves-pp-tokens : (ts : List Leaf) → leaves (pp-tokens ts) ≡ ts
 unfolding leaves pp-tokens
 leaves-pp-tokens ts = either (pasted ts) _ _ ts (append-nil (leaves (wrapped ts)) ∙ leaves-wrapped ts) (leaves-pp-tokens-from ts)
+
+-- The bytes of two rows of leaves.
+pub bytes-append : (us ts : List Leaf) → bytes (us ++ ts) ≡ bytes us ++ bytes ts
+unfolding bytes
+bytes-append [] ts = refl
+bytes-append (t ∷ us) ts = rw (bytes-append us ts) (sym (append-assoc (t .bytes) (bytes us) (bytes ts)))
