@@ -1,2 +1,4 @@
 pub mod Placed
+pub mod Walk
+pub mod Step
 pub mod Demand3
