@@ -1,3 +1,5 @@
 pub mod Placed
+pub mod Walk
+pub mod Step
 pub mod Demand3
 pub mod Refusals
