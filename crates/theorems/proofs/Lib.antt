@@ -15,3 +15,6 @@ pub mod Glues
 pub mod Sorts
 pub mod Step
 pub mod PreAt
+pub mod Chars
+pub mod Lines
+pub mod Unescapes
