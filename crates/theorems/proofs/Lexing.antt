@@ -1,2 +1,11 @@
+pub mod Chars
+pub mod Glues
+pub mod Gluing
+pub mod Lines
+pub mod PreAt
 pub mod Runs
+pub mod Sorts
+pub mod Step
 pub mod Tokens
+pub mod Unescapes
+pub mod Walk

@@ -7,14 +7,3 @@ pub mod Refusals
 pub mod Replay
 pub mod Tiling
 pub mod Worked
-pub mod Runs
-pub mod Tokens
-pub mod Walk
-pub mod Gluing
-pub mod Glues
-pub mod Sorts
-pub mod Step
-pub mod PreAt
-pub mod Chars
-pub mod Lines
-pub mod Unescapes

@@ -12,9 +12,9 @@ use Rattle.definition.specs.Pre.{begin, flag}
 use Rattle.definition.specs.Glue.{glued, glues}
 use Rattle.theorems.specs.Walk.{Walk, walk, named, pre-tokens, pre-token}
 use Rattle.theorems.specs.Step.{Stepped, Pre-stepped, Gluing}
-use Rattle.theorems.proofs.Walk.{pre-tokens-cons, pre-tokens-nil, walk-fits}
-use Rattle.theorems.proofs.Gluing.{glue-end, glue-stop}
-use Rattle.theorems.proofs.Sorts.{named-some}
+use Rattle.theorems.proofs.Lexing.Walk.{pre-tokens-cons, pre-tokens-nil, walk-fits}
+use Rattle.theorems.proofs.Lexing.Gluing.{glue-end, glue-stop}
+use Rattle.theorems.proofs.Lexing.Sorts.{named-some}
 
 module _ (s : List ℕ) (at : ℕ) (f : Bool) where
   -- How the pre-token at this place ends, and its bytes.

@@ -11,7 +11,7 @@ use borrow.Author.Tests.{eqb-true, leb-true}
 use Rattle.definition.specs.Text.{if_then_else_, among}
 use Rattle.definition.specs.Runs.{Run, Row, text, put, list, joined, runs, grouped}
 use Rattle.definition.specs.Newline.{LF, CR, CRLF, char-more, chars}
-use Rattle.theorems.proofs.Runs.{joined-grouped, restart}
+use Rattle.theorems.proofs.Lexing.Runs.{joined-grouped, restart}
 
 -- What goes on with a character, and the characters after it.
 abbrev pub char-row : ℕ → List ℕ → Row ℕ ℕ

@@ -12,8 +12,8 @@ use Rattle.definition.specs.Text.{byte}
 use Rattle.definition.specs.Runs.{Run, text, runs, grouped}
 use Rattle.definition.specs.Newline.{LF, CR, CRLF, char-more, chars, newline}
 use Rattle.definition.specs.Unescaped.{unescaped-chars, unescaped}
-use Rattle.theorems.proofs.Chars.{char-row, first-char, chars-cons, chars-later, row-on, row-off, Goes-on, tail, cr-lf, lf-cr, goes-on, class-on, class-kept}
-use Rattle.theorems.proofs.Lines.{newline-kept}
+use Rattle.theorems.proofs.Lexing.Chars.{char-row, first-char, chars-cons, chars-later, row-on, row-off, Goes-on, tail, cr-lf, lf-cr, goes-on, class-on, class-kept}
+use Rattle.theorems.proofs.Lexing.Lines.{newline-kept}
 
 abbrev backslash : ℕ → Bool
 backslash b = eqb b (byte "\\")

@@ -10,8 +10,8 @@ use Rattle.definition.specs.Runs.{Row, text, joined, put, list, runs, grouped}
 use Rattle.definition.specs.Glue.{Token, tokens, flat, glued, glues}
 use Rattle.theorems.specs.Walk.{pre-tokens}
 use Rattle.theorems.specs.Step.{Stepped, Pre-stepped, Gluing, glue-begin, glue-more, read-so-far}
-use Rattle.theorems.proofs.Tokens.{joined-tokens}
-use Rattle.theorems.proofs.Glues.{never-zero}
+use Rattle.theorems.proofs.Lexing.Tokens.{joined-tokens}
+use Rattle.theorems.proofs.Lexing.Glues.{never-zero}
 
 -- A row of pre-tokens, glued.
 abbrev pub made : List Token → List Token

@@ -14,8 +14,8 @@ use Rattle.definition.specs.Unescaped.{unescaped}
 use Rattle.definition.specs.Pre.{State, done, slash, ident, single-comment, multi-comment, multi-comment-star, whitespace, quote-string, angle-string, backslash, digits, alone, in-ident, in-comment, in-digits, find, puncts, begin, more, kind-of}
 use Rattle.definition.specs.Glue.{defined}
 use Rattle.theorems.specs.Walk.{walk, named}
-use Rattle.theorems.proofs.Walk.{walk-same, walk-more, walk-stop}
-use Rattle.theorems.proofs.Glues.{every, Loose}
+use Rattle.theorems.proofs.Lexing.Walk.{walk-same, walk-more, walk-stop}
+use Rattle.theorems.proofs.Lexing.Glues.{every, Loose}
 
 -- What holds of the state after one more character, if there is one.
 record Next (P : State → Type 0) (o : Option State) : Type 0 where

@@ -12,9 +12,9 @@ use Rattle.definition.specs.Pre.{Pre, done, pre-begin, pre-more, pres}
 use Rattle.definition.specs.Glue.{Token, tokens, flat, pre-kind}
 use Rattle.theorems.specs.Walk.{pre-tokens}
 use Rattle.theorems.specs.Step.{Step, glue-begin, glue-more}
-use Rattle.theorems.proofs.Runs.{restart}
-use Rattle.theorems.proofs.Tokens.{joined-tokens}
-use Rattle.theorems.proofs.Gluing.{made, tokens-made}
+use Rattle.theorems.proofs.Lexing.Runs.{restart}
+use Rattle.theorems.proofs.Lexing.Tokens.{joined-tokens}
+use Rattle.theorems.proofs.Lexing.Gluing.{made, tokens-made}
 
 -- Without its first k runs, a row is grouped from some element on.
 module _ {B S : Type 0} (begin : S → B → S) (more : S → B → Option S) where

@@ -11,7 +11,7 @@ use borrow.Author.Tests.{ne-eqb}
 use Rattle.definition.specs.Runs.{runs, grouped}
 use Rattle.definition.specs.Newline.{LF, CR, CRLF, char-more, chars, newline}
 use Rattle.definition.specs.LineMap.{newline-ends}
-use Rattle.theorems.proofs.Chars.{char-row, chars-cons, chars-later, row-on, row-off, Goes-on, tail, cr-lf, lf-cr, goes-on, class-on, class-kept}
+use Rattle.theorems.proofs.Lexing.Chars.{char-row, chars-cons, chars-later, row-on, row-off, Goes-on, tail, cr-lf, lf-cr, goes-on, class-on, class-kept}
 
 pub newline-kept : (c : ℕ) (bs : List ℕ) → newline (char-row c bs .kind) ≡ newline c
 newline-kept = class-kept newline refl refl
