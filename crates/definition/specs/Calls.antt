@@ -1,7 +1,6 @@
 -- The seven calls (01, "The call" and "Refused, in checking order"): each outcome, on whatever it is handed.
-use Rattle.definition.specs.Text.{ℕ, _-_, Bool, true, false, not, _||_, List, [], _∷_, _++_, eqb, ltb, length, replicate, if_then_else_}
+use Rattle.definition.specs.Text.{ℕ, _-_, Bool, true, false, not, _||_, List, [], _∷_, _++_, eqb, ltb, length, replicate, if_then_else_, Kind}
 use Rattle.definition.specs.Utf8.{utf8}
-use Rattle.definition.specs.SyntaxKind.{Kind}
 use Rattle.definition.specs.Unescaped.{unescaped}
 use Rattle.definition.specs.LineMap.{line-starts, LineCol, get-line-and-col, line-table}
 use Rattle.definition.specs.Glue.{tokens, token-numbers, pasted-kind}
@@ -9,10 +8,10 @@ use Rattle.definition.specs.Tree.{Entry, entries, entry-numbers, body-co
 use Rattle.definition.specs.Error.{Err, error-numbers}
 use Rattle.definition.specs.Syntax.{parse, parse-define-body}
 
-abbrev pub longest-source : ℕ
+abbrev pub longest-source : ℕ  -- Refusal 1 begins above it.
 longest-source = 16_777_216
 
-abbrev pub most-concats : ℕ
+abbrev pub most-concats : ℕ  -- Refusal 3 begins above it.
 most-concats = 256
 
 -- A refusal: its number, and whether its condition holds.
@@ -34,33 +33,33 @@ too-many (n ∷ ns) = ltb most-concats n || too-many ns
 abbrev pub Refusal : record { LENGTH : ℕ; UTF8 : ℕ; CONCATS : ℕ; ENTRIES : ℕ; ERRORS : ℕ; LINES : ℕ; LOOKUP : ℕ; OUTPUT : ℕ; KIND : ℕ }
 Refusal = record { LENGTH = 1; UTF8 = 2; CONCATS = 3; ENTRIES = 4; ERRORS = 5; LINES = 6; LOOKUP = 7; OUTPUT = 8; KIND = 9 }
 
-abbrev pub too-long : List ℕ → Check
+abbrev pub too-long : List ℕ → Check  -- 1: the source or text is longer.
 too-long src = record { number = Refusal.LENGTH; fails = ltb longest-source (length src) }
 
-abbrev pub not-utf8 : List ℕ → Check
+abbrev pub not-utf8 : List ℕ → Check  -- 2: it is not UTF-8.
 not-utf8 src = record { number = Refusal.UTF8; fails = not (utf8 src) }
 
-abbrev pub too-many-concats : List ℕ → Check
+abbrev pub too-many-concats : List ℕ → Check  -- 3: some body holds more ##.
 too-many-concats counts = record { number = Refusal.CONCATS; fails = too-many counts }
 
 -- ENTRIES, ERRORS, LINES and OUTPUT: the numbers don't fit a table of that length.
 abbrev pub short-table : ℕ → List ℕ → ℕ → Check
 short-table number numbers room = record { number = number; fails = ltb room (length numbers) }
 
-abbrev pub no-line-table : List ℕ → Check
+abbrev pub no-line-table : List ℕ → Check  -- 7: a lookup's line table does not start at 0, or does not rise strictly.
 no-line-table lines = record { number = Refusal.LOOKUP; fails = not (line-table lines) }
 
-abbrev pub no-kind : ℕ → Check
+abbrev pub no-kind : ℕ → Check  -- 9: a pasted kind is 0, 35 or above 86.
 no-kind k = record { number = Refusal.KIND; fails = eqb k 0 || eqb k Kind.LINECONT || ltb Kind.ROOT k }
 
 -- What a call leaves of a count and in a table: the numbers and then 0, or zeros alone after a refusal.
 abbrev pub counted : ℕ → ℕ → ℕ
 counted refused n = if eqb refused 0 then n else 0
 
-unfoldable pub padded : List ℕ → ℕ → List ℕ
+unfoldable pub padded : List ℕ → ℕ → List ℕ  -- What follows the last used number is 0.
 padded numbers room = numbers ++ replicate (room - length numbers) 0
 
-unfoldable pub filled : ℕ → List ℕ → ℕ → List ℕ
+unfoldable pub filled : ℕ → List ℕ → ℕ → List ℕ  -- Zeros alone after a refusal.
 filled refused numbers room = if eqb refused 0 then padded numbers room else replicate room 0
 
 -- The full reading of a source: its entries, errors and lines, and how many ## each body holds.
@@ -70,14 +69,14 @@ pub record Full : Type 0 where
   pub lines : List ℕ
   pub concats : List ℕ
 
-unfoldable pub full-reading : List ℕ → Full
+unfoldable pub full-reading : List ℕ → Full  -- By the directive reader and the line table.
 full-reading src = let got = parse src in
     record { entry-list = entries 0 0 (got .tree); error-list = got .errs; lines = line-starts src; concats = body-concats (got .tree) }
 
-abbrev pub entries-of : Full → List ℕ
+abbrev pub entries-of : Full → List ℕ  -- The numbers of its entry table.
 entries-of f = entry-numbers (f .entry-list)
 
-abbrev pub errors-of : Full → List ℕ
+abbrev pub errors-of : Full → List ℕ  -- The numbers of its error table.
 errors-of f = error-numbers (f .lines) (f .error-list)
 
 -- Reading a source, with three tables of these lengths.
@@ -90,12 +89,12 @@ pub record Reading : Type 0 where
   pub error-table : List ℕ
   pub line-table : List ℕ
 
-abbrev pub reading-checks : List ℕ → Full → ℕ → ℕ → ℕ → List Check
+abbrev pub reading-checks : List ℕ → Full → ℕ → ℕ → ℕ → List Check  -- Reading checks 1 to 6.
 reading-checks src f entry-room error-room line-room =
     too-long src ∷ not-utf8 src ∷ too-many-concats (f .concats) ∷
     short-table Refusal.ENTRIES (entries-of f) entry-room ∷ short-table Refusal.ERRORS (errors-of f) error-room ∷ short-table Refusal.LINES (f .lines) line-room ∷ []
 
-unfoldable pub outcome : ℕ → Full → ℕ → ℕ → ℕ → Reading
+unfoldable pub outcome : ℕ → Full → ℕ → ℕ → ℕ → Reading  -- The full reading, or zeros, under a refusal number.
 outcome r f entry-room error-room line-room = record {
   refused = r;
   entry-count = counted r (length (f .entry-list));
@@ -106,7 +105,7 @@ outcome r f entry-room error-room line-room = record {
   line-table = filled r (f .lines) line-room;
 }
 
-unfoldable pub reading : List ℕ → ℕ → ℕ → ℕ → Reading
+unfoldable pub reading : List ℕ → ℕ → ℕ → ℕ → Reading  -- `Parser::parse`.
 reading src entry-room error-room line-room =
     let f = full-reading src in
     outcome (refusal (reading-checks src f entry-room error-room line-room)) f entry-room error-room line-room
@@ -117,28 +116,28 @@ pub record Filled : Type 0 where
   pub count : ℕ
   pub table : List ℕ
 
-abbrev pub fills : ℕ → ℕ → List ℕ → ℕ → Filled
+abbrev pub fills : ℕ → ℕ → List ℕ → ℕ → Filled  -- Its answer under a refusal number.
 fills r n numbers room = record { refused = r; count = counted r n; table = filled r numbers room }
 
-unfoldable pub reading-body : List ℕ → ℕ → Filled
+unfoldable pub reading-body : List ℕ → ℕ → Filled  -- `Parser::parse_define_body` checks 1 to 4.
 reading-body src room =
     let tree = parse-define-body src in
     let es = entries 0 0 tree in
     let ns = entry-numbers es in
     fills (refusal (too-long src ∷ not-utf8 src ∷ too-many-concats (body-concats tree) ∷ short-table Refusal.ENTRIES ns room ∷ [])) (length es) ns room
 
-unfoldable pub listing-tokens : List ℕ → ℕ → Filled
+unfoldable pub listing-tokens : List ℕ → ℕ → Filled  -- `Lexer` checks 1, 2, 4.
 listing-tokens src room =
     let ts = tokens false src in
     let ns = token-numbers 0 ts in
     fills (refusal (too-long src ∷ not-utf8 src ∷ short-table Refusal.ENTRIES ns room ∷ [])) (length ts) ns room
 
-unfoldable pub building-lines : List ℕ → ℕ → Filled
+unfoldable pub building-lines : List ℕ → ℕ → Filled  -- The line table checks 1, 2, 6.
 building-lines src room =
     let ns = line-starts src in
     fills (refusal (too-long src ∷ not-utf8 src ∷ short-table Refusal.LINES ns room ∷ [])) (length ns) ns room
 
-unfoldable pub unescaping : List ℕ → ℕ → Filled
+unfoldable pub unescaping : List ℕ → ℕ → Filled  -- `Unescaped::chars` checks 1, 2, 8.
 unescaping src room =
     let ns = unescaped src in
     fills (refusal (too-long src ∷ not-utf8 src ∷ short-table Refusal.OUTPUT ns room ∷ [])) (length ns) ns room
@@ -149,7 +148,7 @@ pub record Looked : Type 0 where
   pub line : ℕ
   pub column : ℕ
 
-unfoldable pub looking-up : List ℕ → ℕ → Looked
+unfoldable pub looking-up : List ℕ → ℕ → Looked  -- `LineMap::get_line_and_col` checks 7.
 looking-up lines offset =
     let r = refusal (no-line-table lines ∷ []) in
     let at = get-line-and-col lines offset in
@@ -159,7 +158,7 @@ pub record Pasted : Type 0 where
   pub refused : ℕ
   pub kind : ℕ
 
-unfoldable pub pasting : ℕ → ℕ → Pasted
+unfoldable pub pasting : ℕ → ℕ → Pasted  -- `SyntaxKind::paste` checks 9.
 pasting lhs rhs =
     let r = refusal (no-kind lhs ∷ no-kind rhs ∷ []) in
     record { refused = r; kind = counted r (pasted-kind lhs rhs) }

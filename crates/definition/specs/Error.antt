@@ -21,10 +21,10 @@ ErrorKind = record { unknown-directive = 1; extra-tokens = 2; unexpected = 4; en
 abbrev pub named-error : ℕ → ℕ → ℕ → Leaf → Err
 named-error sort start end name = record { sort = sort; start = start; end = end; actual = 0; expected = []; name-start = name .start; name-end = stop name }
 
-abbrev pub unexpected : Leaf → List ℕ → Err
+abbrev pub unexpected : Leaf → List ℕ → Err  -- Sort 4: the actual kind, and what was expected.
 unexpected t kinds = record { sort = ErrorKind.unexpected; start = t .start; end = stop t; actual = t .kind; expected = kinds; name-start = 0; name-end = 0 }
 
-abbrev pub end-of-input : ℕ → ℕ → List ℕ → Err
+abbrev pub end-of-input : ℕ → ℕ → List ℕ → Err  -- Sort 5: what was expected.
 end-of-input start end kinds = record { sort = ErrorKind.end-of-input; start = start; end = end; actual = 0; expected = kinds; name-start = 0; name-end = 0 }
 
 -- The numbers of errors under a line table.

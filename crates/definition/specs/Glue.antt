@@ -1,6 +1,5 @@
 -- Glued tokens: the third stage of the lexer (01, "Gluing and lexing"; GLSL 3.7), and pasting two kinds.
-use Rattle.definition.specs.Text.{ℕ, _+_, Bool, _&&_, List, [], _∷_, _++_, map, Option, none, some, eqb, length, if_then_else_, ascii, same}
-use Rattle.definition.specs.SyntaxKind.{Kind}
+use Rattle.definition.specs.Text.{ℕ, _+_, Bool, _&&_, List, [], _∷_, _++_, map, Option, none, some, eqb, length, if_then_else_, ascii, same, Kind}
 use Rattle.definition.specs.Runs.{Run, text, joined, grouped}
 use Rattle.definition.specs.Newline.{chars}
 use Rattle.definition.specs.Unescaped.{unescaped-chars}
@@ -31,7 +30,7 @@ glues =
     gl Kind.DASH Kind.EQUAL Kind.SUB_ASSIGN ∷ gl Kind.HASH Kind.HASH Kind.PP_CONCAT_OP ∷
     gl Kind.PERIOD Kind.DIGITS Kind.DIGITS ∷ []
 
-unfoldable pub glued : List Glue → ℕ → ℕ → Option ℕ
+unfoldable pub glued : List Glue → ℕ → ℕ → Option ℕ  -- The first step for two kinds; none: they don't glue.
 glued [] a b = none
 glued (g ∷ gs) a b = if eqb (g .left) a && eqb (g .right) b then some (g .both) else glued gs a b
 
@@ -43,7 +42,7 @@ Token = Run ℕ ℕ
 unfoldable pub flat : {S : Type 0} → (Run Token S → ℕ) → Run Token S → Token
 flat k r = record { kind = k r; head = r .head .head; tail = r .head .tail ++ joined (r .tail) }
 
-abbrev pub defined : List ℕ
+abbrev pub defined : List ℕ  -- The word of DEFINED.
 defined = ascii "defined"
 
 -- An identifier that is `defined`, unescaped, is DEFINED.

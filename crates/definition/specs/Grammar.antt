@@ -1,6 +1,5 @@
 -- The directive grammar of 01, "Directives", over leaves. `G L R` says that L begins with a G and that R follows it.
-use Rattle.definition.specs.Text.{ℕ, zero, suc, _≡_, Bool, true, false, not, _||_, List, [], _∷_, Option, none, some, if_then_else_, ascii, same}
-use Rattle.definition.specs.SyntaxKind.{Kind}
+use Rattle.definition.specs.Text.{ℕ, zero, suc, _≡_, Bool, true, false, not, _||_, List, [], _∷_, Option, none, some, if_then_else_, ascii, same, Kind}
 use Rattle.definition.specs.Unescaped.{unescaped}
 use Rattle.definition.specs.Tree.{Leaf}
 use Rattle.definition.specs.Parser.{is, trivia, newline, inline, peek}
@@ -36,7 +35,7 @@ pub data Eol : List Leaf → List Leaf → Type 0 where
 abbrev pub t* : List Leaf → List Leaf → Type 0
 t* = Many trivia
 
-abbrev pub IDENT_KW : List Leaf → List Leaf → Type 0
+abbrev pub IDENT_KW : List Leaf → List Leaf → Type 0  -- One identifier.
 IDENT_KW = One (is Kind.IDENT_KW)
 
 abbrev pub lparen : Leaf → Bool
@@ -75,7 +74,7 @@ pub data Args : List Leaf → List Leaf → Type 0 where
 pub data Rest : Type 0 where
   any ident none-at-all version extension define : Rest
 
-abbrev pub rest-of : Rest → List Leaf → List Leaf → Type 0
+abbrev pub rest-of : Rest → List Leaf → List Leaf → Type 0  -- As 01 lists them.
 rest-of any = Many inline
 rest-of ident = t* ⨟ IDENT_KW
 rest-of none-at-all = Nothing
@@ -90,13 +89,13 @@ pub record Word : Type 0 where
 abbrev w : List ℕ → Rest → Word
 w s r = record { spelt = s; rest = r }
 
-unfoldable pub words : List Word
+unfoldable pub words : List Word  -- The fourteen words.
 words =
     w (ascii "include") any ∷ w (ascii "define") define ∷ w (ascii "undef") ident ∷ w (ascii "line") any ∷ w (ascii "error") any ∷
     w (ascii "pragma") any ∷ w (ascii "version") version ∷ w (ascii "if") any ∷ w (ascii "ifdef") ident ∷ w (ascii "ifndef") ident ∷
     w (ascii "elif") any ∷ w (ascii "else") none-at-all ∷ w (ascii "endif") none-at-all ∷ w (ascii "extension") extension ∷ []
 
-unfoldable pub rest-after : List Word → List ℕ → Option Rest
+unfoldable pub rest-after : List Word → List ℕ → Option Rest  -- The rest of a word; none: it is no directive.
 rest-after [] s = none
 rest-after (x ∷ xs) s = if same (x .spelt) s then some (x .rest) else rest-after xs s
 

@@ -1,6 +1,6 @@
+pub mod SyntaxKind
 pub mod Text
 pub mod Utf8
-pub mod SyntaxKind
 pub mod Runs
 pub mod Newline
 pub mod LineMap

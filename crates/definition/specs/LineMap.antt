@@ -24,7 +24,7 @@ last-line i found [] offset = found
 last-line i found (s ∷ ss) offset =
     last-line (suc i) (if leb s offset then record { line = i; column = offset - s } else found) ss offset
 
-unfoldable pub get-line-and-col : List ℕ → ℕ → LineCol
+unfoldable pub get-line-and-col : List ℕ → ℕ → LineCol  -- Past the end too.
 get-line-and-col lines offset = last-line 0 (record { line = 0; column = 0 }) lines offset
 
 -- A line table starts at 0 and rises strictly.

@@ -1,6 +1,5 @@
 -- Readers of leaves: what a reader takes as a row of trees, the errors it meets, and what it leaves.
-use Rattle.definition.specs.Text.{ℕ, Bool, true, false, not, _||_, List, [], _∷_, _++_, eqb, if_then_else_}
-use Rattle.definition.specs.SyntaxKind.{Kind}
+use Rattle.definition.specs.Text.{ℕ, Bool, true, false, not, _||_, List, [], _∷_, _++_, eqb, if_then_else_, Kind}
 use Rattle.definition.specs.Tree.{Leaf, Forest, nil, leaf, node, row, _▹_}
 use Rattle.definition.specs.Error.{Err, unexpected, end-of-input}
 
@@ -11,10 +10,10 @@ is k t = eqb (t .kind) k
 abbrev pub trivia : Leaf → Bool
 trivia t = is Kind.WS t || is Kind.COMMENT t
 
-abbrev pub newline : Leaf → Bool
+abbrev pub newline : Leaf → Bool  -- A newline is no trivia.
 newline t = is Kind.NEWLINE t
 
-abbrev pub inline : Leaf → Bool
+abbrev pub inline : Leaf → Bool  -- Any leaf but NEWLINE.
 inline t = not (newline t)
 
 -- The leading leaves that pass a test, the others, and whether the first passes it.
@@ -57,20 +56,20 @@ unfoldable pub _then_ : Reader → Reader → Reader
 unfoldable pub wrap : ℕ → Reader → Reader
 wrap k p ts = let a = p ts in record { tree = node k (a .tree) nil; errs = a .errs; rest = a .rest }
 
-unfoldable pub skip : (Leaf → Bool) → Reader
+unfoldable pub skip : (Leaf → Bool) → Reader  -- The leading leaves that pass a test.
 skip p ts = record { tree = row (while p ts); errs = []; rest = after p ts }
 
-unfoldable pub skip-trivia : Reader
+unfoldable pub skip-trivia : Reader  -- `skip_trivia`.
 skip-trivia ts = skip trivia ts
 
-unfoldable pub nothing : Reader
+unfoldable pub nothing : Reader  -- Takes nothing.
 nothing ts = record { tree = nil; errs = []; rest = ts }
 
-unfoldable pub bump : Reader
+unfoldable pub bump : Reader  -- Takes one leaf, if there is one.
 bump [] = record { tree = nil; errs = []; rest = [] }
 bump (t ∷ ts) = record { tree = leaf t nil; errs = []; rest = ts }
 
-unfoldable pub maybe : (Leaf → Bool) → Reader → Reader
+unfoldable pub maybe : (Leaf → Bool) → Reader → Reader  -- Reads on only if the first leaf passes a test.
 maybe p r ts = elim (peek p ts) [ true ↦ r ts | false ↦ nothing ts ]
 
 -- A missing piece swallows the next leaf into an ERROR node, a NEWLINE too. n: where the source ends.

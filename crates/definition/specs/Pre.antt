@@ -1,6 +1,5 @@
 -- Pre-tokens: the second stage of the lexer, an automaton over characters (01, "Gluing and lexing"; GLSL 3.1, 3.4 to 3.7).
-use Rattle.definition.specs.Text.{ℕ, suc, Bool, true, false, _&&_, _||_, not, List, [], _∷_, Option, none, some, eqb, if_then_else_, byte, ascii}
-use Rattle.definition.specs.SyntaxKind.{Kind}
+use Rattle.definition.specs.Text.{ℕ, suc, Bool, true, false, _&&_, _||_, not, List, [], _∷_, Option, none, some, eqb, if_then_else_, byte, ascii, Kind}
 use Rattle.definition.specs.Runs.{Run, grouped}
 use Rattle.definition.specs.Newline.{letter, digit, newline, blank}
 

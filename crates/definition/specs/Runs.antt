@@ -18,10 +18,10 @@ module _ {B S : Type 0} where
   abbrev pub text : Run B S → List B
   text r = r .head ∷ r .tail
 
-  abbrev pub put : B → Row B S → Row B S
+  abbrev pub put : B → Row B S → Row B S  -- One more element in front.
   put b r = record { kind = r .kind; text = b ∷ r .text; later = r .later }
 
-  abbrev pub list : B → Row B S → List (Run B S)
+  abbrev pub list : B → Row B S → List (Run B S)  -- The run that begins with this element, and those after it.
   list b r = record { kind = r .kind; head = b; tail = r .text } ∷ r .later
 
   -- What the runs of a row hold, one after another.
@@ -38,6 +38,6 @@ module _ {B S : Type 0} (begin : S → B → S) (more : S → B → Option S) wh
     | none ↦ record { kind = q; text = []; later = list b (runs (begin q b) bs) }
   ]
 
-  unfoldable pub grouped : S → List B → List (Run B S)
+  unfoldable pub grouped : S → List B → List (Run B S)  -- The runs of a row.
   grouped q [] = []
   grouped q (b ∷ bs) = list b (runs (begin q b) bs)

@@ -1,6 +1,5 @@
 -- The directive reader, with the Rust's recovery (01, "Directives"; GLSL 3.3). n: where the source ends.
-use Rattle.definition.specs.Text.{ℕ, zero, suc, Bool, true, false, _&&_, not, List, [], _∷_, Option, none, some, eqb, length, if_then_else_, ascii, same}
-use Rattle.definition.specs.SyntaxKind.{Kind}
+use Rattle.definition.specs.Text.{ℕ, zero, suc, Bool, true, false, _&&_, not, List, [], _∷_, Option, none, some, eqb, length, if_then_else_, ascii, same, Kind}
 use Rattle.definition.specs.Unescaped.{unescaped}
 use Rattle.definition.specs.Glue.{tokens}
 use Rattle.definition.specs.Tree.{Leaf, placed, bytes, stop, Forest, nil, leaf, node, row, _▹_}
@@ -28,7 +27,7 @@ pp-tokens-from [] = nil
 pp-tokens-from (t ∷ ts) =
     if not (trivia t) && pasted ts then node Kind.PP_CONCAT (leaf t (wrapped ts)) nil else leaf t (pp-tokens-from ts)
 
-unfoldable pub pp-tokens : List Leaf → Forest
+unfoldable pub pp-tokens : List Leaf → Forest  -- `pp_tokens`.
 pp-tokens ts = if pasted ts then node Kind.PP_CONCAT (wrapped ts) nil else pp-tokens-from ts
 
 -- A row without the trivia at its end, and that trivia.
@@ -50,7 +49,7 @@ body k ts =
     let line = while inline ts in
     record { tree = node k (pp-tokens (trimmed line)) (row (trailing line)); errs = []; rest = after inline ts }
 
-unfoldable pub pp-body : ℕ → Reader
+unfoldable pub pp-body : ℕ → Reader  -- Trivia, and then a body.
 pp-body k = skip-trivia then body k
 
 -- What an argument list waits for: an identifier, or else a comma; and its end.
@@ -65,10 +64,10 @@ abbrev pub push-arg : Bool → Leaf → Got → Got
 push-arg first t g = record { tree = if first then node Kind.PP_DEFINE_ARG (leaf t nil) (g .tree) else leaf t (g .tree); errs = g .errs; rest = g .rest }
 
 module _ (n : ℕ) where
-  abbrev pub ident : Reader
+  abbrev pub ident : Reader  -- `ident`.
   ident = expect-one n Kind.IDENT_KW
 
-  abbrev pub digits : Reader
+  abbrev pub digits : Reader  -- `digits`.
   digits = expect-one n Kind.DIGITS
 
   -- The argument list after its LPAREN; first: an identifier's place, else a comma's. Errors don't swallow a NEWLINE.
@@ -86,13 +85,13 @@ module _ (n : ℕ) where
       let a = (bump then args true) ts in
       record { tree = node (elim (a .errs) [ [] ↦ Kind.PP_DEFINE_ARGS | e ∷ es ↦ Kind.ERROR ]) (a .tree) nil; errs = a .errs; rest = a .rest }
 
-  unfoldable pub pp-define : Reader
+  unfoldable pub pp-define : Reader  -- `define`: arguments only if LPAREN follows the name with no trivia.
   pp-define = skip-trivia then ident then maybe (is Kind.LPAREN) define-args then pp-body Kind.PP_DEFINE_BODY
 
-  unfoldable pub pp-if-ident : Reader
+  unfoldable pub pp-if-ident : Reader  -- `undef`, `ifdef`, `ifndef`: an identifier.
   pp-if-ident = skip-trivia then wrap Kind.PP_IDENT ident
 
-  unfoldable pub pp-version : Reader
+  unfoldable pub pp-version : Reader  -- `version`: a number, maybe a profile.
   pp-version =
       skip-trivia then wrap Kind.PP_VERSION_NUMBER digits then skip-trivia then maybe (is Kind.IDENT_KW) (wrap Kind.PP_VERSION_PROFILE bump)
 
@@ -103,7 +102,7 @@ module _ (n : ℕ) where
       if is Kind.COLON t then (bump then r) (t ∷ ts) else
       raise (unexpected t (Kind.COLON ∷ [])) (if newline t then nothing (t ∷ ts) else push t (nothing ts))
 
-  unfoldable pub pp-extension : Reader
+  unfoldable pub pp-extension : Reader  -- `extension`: a name, a colon, a behaviour.
   pp-extension = skip-trivia then ident then skip-trivia then colon (skip-trivia then ident)
 
 -- The end of a directive's line; extra leaves go into an ERROR node, and the error names their range.
@@ -111,10 +110,10 @@ unfoldable pub last-stop : ℕ → List Leaf → ℕ
 last-stop n [] = n
 last-stop n (t ∷ ts) = last-stop (stop t) ts
 
-unfoldable pub extra : List Err → Reader
+unfoldable pub extra : List Err → Reader  -- The rest of the line.
 extra es ts = record { tree = row (while inline ts); errs = es; rest = after inline ts }
 
-unfoldable pub finish : (Leaf → ℕ → List Err) → Reader
+unfoldable pub finish : (Leaf → ℕ → List Err) → Reader  -- e: the error, from the first extra leaf and their end.
 finish e [] = nothing []
 finish e (t ∷ ts) =
     if newline t then bump (t ∷ ts) else
@@ -129,14 +128,14 @@ pub record Directive : Type 0 where
 abbrev dir : List ℕ → ℕ → Reader → Directive
 dir w k r = record { spelt = w; node-kind = k; reads = r }
 
-unfoldable pub named : List Directive → List ℕ → Option Directive
+unfoldable pub named : List Directive → List ℕ → Option Directive  -- The directive of a word; none: unknown.
 named [] w = none
 named (d ∷ ds) w = if same (d .spelt) w then some d else named ds w
 
-unfoldable pub directive : Leaf → Directive → Reader
+unfoldable pub directive : Leaf → Directive → Reader  -- Sort 2 for extra tokens.
 directive w d = bump then (d .reads) then skip-trivia then finish (λ t end. named-error ErrorKind.extra-tokens (t .start) end w ∷ [])
 
-unfoldable pub unknown : Leaf → Reader
+unfoldable pub unknown : Leaf → Reader  -- Sort 1 at the name; no sort 2.
 unknown w ts = raise (named-error ErrorKind.unknown-directive (w .start) (stop w) w) (finish (λ t end. []) ts)
 
 -- Groups: how many brackets are open inside after a leaf; none: it is the matching RPAREN.
@@ -154,12 +153,12 @@ pub record Line : Type 0 where
   pub node-kind : Option ℕ
   pub got : Got
 
-abbrev pub group : Got → Line
+abbrev pub group : Got → Line  -- A closed group has no node, an unended one an ERROR node.
 group a = record { node-kind = elim (a .errs) [ [] ↦ none | e ∷ es ↦ some Kind.ERROR ]; got = a }
 
 -- again: how the leaves after `include` are lexed, where an angle string is expected.
 module _ (n : ℕ) (again : List Leaf → List Leaf) where
-  unfoldable pub pp-include : Reader
+  unfoldable pub pp-include : Reader  -- `include`: the path.
   pp-include ts = pp-body Kind.PP_INCLUDE_PATH (again ts)
 
   -- The fourteen directive words.
@@ -222,5 +221,5 @@ relexed (t ∷ ts) = placed (t .start) (tokens true (bytes (t ∷ ts)))
 unfoldable pub parse : List ℕ → Got
 parse bs = wrap Kind.ROOT (file (length bs) relexed (length bs)) (placed 0 (tokens false bs))
 
-unfoldable pub parse-define-body : List ℕ → Forest
+unfoldable pub parse-define-body : List ℕ → Forest  -- `Parser::parse_define_body`.
 parse-define-body bs = node Kind.PP_DEFINE_BODY (pp-tokens (trimmed (while inline (placed 0 (tokens false bs))))) nil

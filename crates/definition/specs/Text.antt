@@ -6,6 +6,7 @@ pub use mathlib.Core.List.{List, [], _∷_, _++_, map}
 pub use mathlib.Core.Option.{Option, none, some}
 pub use lib.Dec.{eqb, leb, ltb}
 pub use lib.ListN.{length, take, getD, replicate}
+pub use Rattle.definition.specs.SyntaxKind.{Kind}
 use Prim.Native.Char.{Char, code}
 use Prim.Native.String.{String, [] as ε, _∷_ as _◂_}
 

@@ -1,6 +1,5 @@
 -- The tree: leaves, rows of trees, and their entries (01, "The call").
-use Rattle.definition.specs.Text.{ℕ, suc, _+_, Bool, true, false, _||_, List, [], _∷_, _++_, eqb, length, if_then_else_}
-use Rattle.definition.specs.SyntaxKind.{Kind}
+use Rattle.definition.specs.Text.{ℕ, suc, _+_, Bool, true, false, _||_, List, [], _∷_, _++_, eqb, length, if_then_else_, Kind}
 use Rattle.definition.specs.Runs.{text}
 use Rattle.definition.specs.Glue.{Token}
 
@@ -13,7 +12,7 @@ pub record Leaf : Type 0 where
 abbrev pub long : Leaf → ℕ
 long t = length (t .bytes)
 
-abbrev pub stop : Leaf → ℕ
+abbrev pub stop : Leaf → ℕ  -- Where a leaf ends.
 stop t = t .start + long t
 
 -- The leaves of a row of tokens that starts at the given offset; a continuation becomes a WS leaf.
@@ -46,7 +45,7 @@ leaves nil = []
 leaves (leaf t f) = t ∷ leaves f
 leaves (node k c f) = leaves c ++ leaves f
 
-unfoldable pub row : List Leaf → Forest
+unfoldable pub row : List Leaf → Forest  -- Leaves without nodes.
 row [] = nil
 row (t ∷ ts) = leaf t (row ts)
 
@@ -64,7 +63,7 @@ pub record Entry : Type 0 where
   pub start : ℕ
   pub end : ℕ
 
-abbrev pub Form : record { leaf : ℕ; node : ℕ }
+abbrev pub Form : record { leaf : ℕ; node : ℕ }  -- The first number of an entry.
 Form = record { leaf = 0; node = 1 }
 
 -- The entries of a row of trees at a level and an offset, parent before children, left to right.
@@ -80,7 +79,7 @@ entries l at (node k c f) =
 abbrev pub Width : record { entry : ℕ; error : ℕ; token : ℕ }
 Width = record { entry = 5; error = 10; token = 3 }
 
-unfoldable pub entry-numbers : List Entry → List ℕ
+unfoldable pub entry-numbers : List Entry → List ℕ  -- As a table holds them.
 entry-numbers [] = []
 entry-numbers (e ∷ es) = e .form ∷ e .kind ∷ e .level ∷ e .start ∷ e .end ∷ entry-numbers es
 

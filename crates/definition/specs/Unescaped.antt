@@ -13,5 +13,5 @@ unescaped-chars (c ∷ d ∷ cs) =
       | false ↦ text c ++ unescaped-chars (d ∷ cs)
     ]
 
-unfoldable pub unescaped : List ℕ → List ℕ
+unfoldable pub unescaped : List ℕ → List ℕ  -- The unescaped text of a source.
 unescaped bs = unescaped-chars (chars bs)
