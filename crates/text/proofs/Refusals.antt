@@ -5,14 +5,14 @@ use mathlib.Core.Path.{_≡_, refl, sym, ap, _∙_}
 use mathlib.Core.Bool.{Bool, true, false, not}
 use mathlib.Core.List.{List, [], _∷_}
 use lib.Dec.{ltb, eqb}
-use lib.ListN.{length}
-use lib.Seq.{sets}
+use lib.ListN.{length, length-replicate}
+use lib.Seq.{sets, length-sets}
 use borrow.Author.Tests.{lt-ltb, le-ltb, ne-eqb, ltb-false}
 use Rattle.definition.specs.Text.{if_then_else_}
 use Rattle.definition.specs.Utf8.{left, utf8, nothing, cut, broken}
 use Rattle.definition.specs.Calls.{Check, refusal, longest-source, too-long, not-utf8, short-table, padded, filled, counted, Filled, fills}
 use Rattle.text.specs.Utf8.{told}
-use Rattle.text.specs.Fills.{Fills}
+use Rattle.text.specs.Fills.{Fills, Written}
 use Rattle.text.specs.declared.Counted.{Counted}
 use Rattle.text.specs.declared.utf8.Left.{Left}
 use Rattle.text.specs.declared.utf8.Left.the-variants.{Nothing, Cut, Broken}
@@ -102,4 +102,27 @@ module _ (src : List ℕ) (number n : ℕ) (numbers : List ℕ) (room : ℕ) (t 
           → Fills (call src number n numbers room) (record { refusal = 0; count = m }) t
       unfolding refusal filled
       call-whole m h p q =
-          fills-by 0 0 m (source-passed src r e (short-table number numbers room ∷ []) z ∙ rw (le-ltb room (length numbers) h)) refl p (q ∙ written-padded numbers room h)
+          fills-by
+          0
+          0
+          m
+          (source-passed src r e (short-table number numbers room ∷ []) z ∙ rw (le-ltb room (length numbers) h))
+          refl
+          p
+          (q ∙ written-padded numbers room h)
+
+-- The same where what is counted is the numbers, and n of them were written into the cleared table t₀ as far as it goes.
+module _ (src : List ℕ) (number : ℕ) (numbers : List ℕ) (room r n : ℕ) (t₀ t₁ : List ℕ)
+    (e : r ≡ refusal (source-then src [])) (z : r ≡ 0) (b : t₀ ≡ zeros room) (k : Written numbers t₀ n t₁) where
+  written-long : length t₁ ≡ room
+  written-long = ap length (k .table-is) ∙ length-sets t₀ 0 numbers ∙ ap length b ∙ length-replicate room 0
+
+  pub written-short : (t₂ : List ℕ) → (number ≡ 0 → ⊥) → length t₁ < n → t₂ ≡ zeros (length t₁)
+      → Fills (call src number (length numbers) numbers room) (record { refusal = number; count = 0 }) t₂
+  written-short t₂ nz h q =
+      call-short src number _ numbers room t₂ r e z nz (omega (arith, written-long, k .count-is)) (q ∙ ap zeros written-long)
+
+  pub written-whole : n ≤ length t₁ → Fills (call src number (length numbers) numbers room) (record { refusal = 0; count = n }) t₁
+  written-whole h =
+      call-whole src number _ numbers room t₁ r e z n (omega (arith, written-long, k .count-is)) (k .count-is)
+      (k .table-is ∙ ap (λ t. sets t 0 numbers) b)

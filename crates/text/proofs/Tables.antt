@@ -7,9 +7,8 @@ use mathlib.Core.Path.{_≡_, refl, sym, ap, _∙_}
 use mathlib.Core.List.{List, [], _∷_, _++_, append-nil}
 use borrow.Author.Fill.{fill-more}
 use lib.ListN.{length, drop, set, replicate, length-set, length-replicate, drop-of-length-le}
-use lib.Seq.{sets, sets-eq}
+use lib.Seq.{sets, sets-eq, length-sets}
 use Rattle.definition.specs.Calls.{padded}
-use Rattle.text.specs.Fills.{Written}
 
 abbrev pub zeros : ℕ → List ℕ
 zeros n = replicate n 0
@@ -41,23 +40,24 @@ module _ (t₀ t : List ℕ) (i : ℕ) (k : Clearing t₀ t i) where
       let b : length t₀ ≤ i = omega arith in
       k .cleared ∙ rw (drop-of-length-le t₀ b, append-nil, e)
 
--- Of the numbers that are written into t₀, n are done, and the rest are still to be written into t.
-pub record Writing (numbers t₀ rest : List ℕ) (n : ℕ) (t : List ℕ) : Type 0 where
-  pub counted : n + length rest ≡ length numbers
-  pub written : sets t n rest ≡ sets t₀ 0 numbers
+-- The rest is still to be written into t from n on, which makes so many numbers in all, and this table.
+pub record Writing (total : ℕ) (final rest : List ℕ) (n : ℕ) (t : List ℕ) : Type 0 where
+  pub counted : n + length rest ≡ total
+  pub written : sets t n rest ≡ final
 
-pub write-none : (numbers t₀ : List ℕ) → Writing numbers t₀ numbers 0 t₀
-write-none numbers t₀ = record { counted = omega arith; written = refl }
-
-module _ (numbers t₀ t : List ℕ) (n : ℕ) where
-  pub write-more : (x : ℕ) (rest t₁ : List ℕ) → Writing numbers t₀ (x ∷ rest) n t → t₁ ≡ set t n x → Writing numbers t₀ rest (n + 1) t₁
+module _ (total : ℕ) (final : List ℕ) (n : ℕ) (t : List ℕ) where
+  pub write-more : (x : ℕ) (rest t₁ : List ℕ) → Writing total final (x ∷ rest) n t → t₁ ≡ set t n x → Writing total final rest (n + 1) t₁
   write-more x rest t₁ k e = record {
     counted = omega (arith, k .counted);
     written = rw (e, add-one n) (k .written);
   }
 
-  pub write-all : Writing numbers t₀ [] n t → Written numbers t₀ n t
-  write-all k = record { count-is = omega (arith, k .counted); table-is = k .written }
+  pub write-none : Writing total final [] n t → (n ≡ total) × (t ≡ final)
+  write-none k = (omega (arith, k .counted), k .written)
+
+-- Writing keeps a table's length.
+pub write-long : (total n m : ℕ) (t t₀ rest numbers : List ℕ) → Writing total (sets t₀ m numbers) rest n t → length t ≡ length t₀
+write-long total n m t t₀ rest numbers k = sym (length-sets t n rest) ∙ ap length (k .written) ∙ length-sets t₀ m numbers
 
 drop-zeros : (k n : ℕ) → drop k (zeros n) ≡ zeros (n - k)
 drop-zeros zero n = rw (sub-zero n)
