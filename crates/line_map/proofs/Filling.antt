@@ -32,15 +32,15 @@ module _ (src t₀ t : List ℕ) (n i : ℕ) (k : Filling src t₀ t n i) where
     other z = record { within = omega arith; few = omega arith; writing = rw (← none-here src i w h e z) (k .writing) }
 
     module _ (z : w ≡ 0 → ⊥) where
+      pub further : i + w ≤ length src
+      further = newline-within src i w (k .within) e
+
       pub another : (t₁ : List ℕ) → t₁ ≡ set t n (i + w) → Filling src t₀ t₁ (n + 1) (i + w)
       another t₁ q = record {
-        within = newline-within src i w h e z;
+        within = further;
         few = omega arith;
         writing = write-more _ _ n t (i + w) (ends-from (i + w) src) t₁ (rw (one-here src i w h e z) at (k .writing)) q;
       }
-
-      pub further : i + w ≤ length src
-      further = newline-within src i w h e z
 
       pub nearer : length src - (i + w) < length src - i
       nearer = omega (arith, further)

@@ -82,19 +82,22 @@ module _ (lines : List ℕ) (offset : ℕ) where
         unfolding rises
         rise = k .rest ∙ rw (drop-cons lines i 0 h, lt-ltb last (getD lines i 0) l, add-one i)
 
-        pub further : getD lines i 0 ≤ offset → Finding lines offset i (offset - getD lines i 0) (getD lines i 0) (i + 1)
-        further m = record {
-          few = omega (arith, k .few);
-          rest = rise;
-          place = k .place ∙ rw (drop-cons lines i 0 h, line-before _ _ _ _ _ m, add-one i);
-        }
+        -- with the line and the column that are kept
+        module _ (line₁ column₁ : ℕ) where
+          pub further : getD lines i 0 ≤ offset → line₁ ≡ i → column₁ ≡ offset - getD lines i 0
+              → Finding lines offset line₁ column₁ (getD lines i 0) (i + 1)
+          further m p q = record {
+            few = omega (arith, k .few);
+            rest = rise;
+            place = k .place ∙ rw (drop-cons lines i 0 h, line-before _ _ _ _ _ m, add-one i, p, q);
+          }
 
-        pub behind : offset < getD lines i 0 → Finding lines offset line column (getD lines i 0) (i + 1)
-        behind m = record {
-          few = omega (arith, k .few);
-          rest = rise;
-          place = k .place ∙ rw (drop-cons lines i 0 h, line-behind _ _ _ _ _ m, add-one i);
-        }
+          pub behind : offset < getD lines i 0 → line₁ ≡ line → column₁ ≡ column → Finding lines offset line₁ column₁ (getD lines i 0) (i + 1)
+          behind m p q = record {
+            few = omega (arith, k .few);
+            rest = rise;
+            place = k .place ∙ rw (drop-cons lines i 0 h, line-behind _ _ _ _ _ m, add-one i, p, q);
+          }
 
     pub done : length lines ≤ i → looked (At line column) ≡ looking-up lines offset
     unfolding rises last-line

@@ -1,4 +1,3 @@
 pub mod Ends
 pub mod Filling
 pub mod Finding
-pub mod Outcomes

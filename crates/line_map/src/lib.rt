@@ -1,6 +1,7 @@
 // The line table of a source, and looking an offset up in one (line_map.rs).
 use text::Counted;
 use text::newline;
+use text::refusal;
 use text::source;
 use text::table;
 ghost use mathlib.Core.Path.{_≡_};
@@ -38,7 +39,7 @@ pub fn build(src: &[u8], lines: &mut [u32]) -> Counted
 {
     table::clear(lines);
     let refused = source::refused(src);
-    if refused != 0 {
+    if refused != refusal::NONE {
         return Counted {
             refusal: refused,
             count: 0,
@@ -48,12 +49,12 @@ pub fn build(src: &[u8], lines: &mut [u32]) -> Counted
     if lines.len() < n {
         table::clear(lines);
         return Counted {
-            refusal: 6,
+            refusal: refusal::SHORT_LINES,
             count: 0,
         };
     }
     Counted {
-        refusal: 0,
+        refusal: refusal::NONE,
         count: n as u32,
     }
 }
@@ -89,10 +90,8 @@ fn find(lines: &[u32], offset: u32) -> Found
         if start <= offset {
             line = i as u32;
             column = offset - start;
-            i += 1;
-        } else {
-            i += 1;
         }
+        i += 1;
     }
     Found::At { line, column }
 }
@@ -111,12 +110,12 @@ pub fn get_line_and_col(lines: &[u32], offset: u32) -> Place
 {
     match find(lines, offset) {
         Found::At { line, column } => Place {
-            refusal: 0,
+            refusal: refusal::NONE,
             line,
             column,
         },
         Found::NoTable => Place {
-            refusal: 7,
+            refusal: refusal::NO_LINE_TABLE,
             line: 0,
             column: 0,
         },

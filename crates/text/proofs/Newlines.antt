@@ -56,6 +56,16 @@ pair-is a bs h = newline-len-cons a bs ∙ go (eqb a LF) refl (eqb a CR) refl
     go false e true f = rw (eqb-true a CR f) (cr-len bs)
     go false e false f = rw (e, f, ne-eqb a CRLF (λ e. omega arith))
 
+-- A newline is a part of the source.
+at-most : (t : Bool) (n m : ℕ) → n ≤ m → (if t then suc n else 0) ≤ suc m
+at-most true n m h = omega arith
+at-most false n m h = omega arith
+
+newline-short : (bs : List ℕ) → newline-len (chars bs) ≤ length bs
+unfolding newline-len chars grouped
+newline-short [] = omega arith
+newline-short (b ∷ bs) = rw (newline-len-cons b bs) (at-most (newline b) _ _ (row-within b bs))
+
 is-none : (t : Bool) (n : ℕ) → (if t then suc n else 0) ≡ 0 → t ≡ false
 is-none true n e = absurd (suc-ne-zero n e)
 is-none false n e = refl
@@ -74,6 +84,9 @@ module _ (s : List ℕ) (at : ℕ) where
       let e : getD (drop (suc at) s) 0 0 ≡ getD s (suc at) 0 = simp (getD-drop, add-zero) in
       rw (drop-cons s at 0 h, add-one, ← e) (pair-is (getD s at 0) (drop (suc at) s) k)
 
+  pub newline-within : (w : ℕ) → at ≤ length s → w ≡ newline-len (chars (drop at s)) → at + w ≤ length s
+  newline-within w h e = omega (arith, newline-short (drop at s), length-drop at s)
+
   -- What the length of the newline at a place says of the byte there, and where the newline ends.
   module _ (w : ℕ) (h : at < length s) (e : w ≡ newline-len (chars (drop at s))) where
     by-first : w ≡ (if newline (getD s at 0) then suc (length (char-row (getD s at 0) (drop (suc at) s) .text)) else 0)
@@ -88,8 +101,3 @@ module _ (s : List ℕ) (at : ℕ) where
 
       pub newline-is : w ≡ suc (length (char-row (getD s at 0) (drop (suc at) s) .text))
       newline-is = by-first ∙ rw a-newline
-
-      pub newline-within : at + w ≤ length s
-      newline-within =
-          omega
-          (arith, newline-is, row-within (getD s at 0) (drop (suc at) s), ap length (drop-cons s at 0 h), length-drop at s)

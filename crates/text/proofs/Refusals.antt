@@ -1,9 +1,11 @@
 -- The refusals that the calls on a source share, and the outcome of a call that fills one table.
-use Prim.Native.Nat.{ℕ, _≤_, _<_}
+use Prim.Native.Nat.{ℕ, suc, _≤_, _<_}
 use native.Mathlib.Omega.{arith}
 use mathlib.Core.Path.{_≡_, refl, sym, ap, _∙_}
 use mathlib.Core.Bool.{Bool, true, false, not}
 use mathlib.Core.List.{List, [], _∷_}
+use mir.Val.{Fits}
+use mir.Syntax.{w32}
 use lib.Dec.{ltb, eqb}
 use lib.ListN.{length, length-replicate}
 use lib.Seq.{sets, length-sets}
@@ -78,21 +80,19 @@ module _ (src : List ℕ) (number n : ℕ) (numbers : List ℕ) (room : ℕ) (t 
       → Fills (call src number n numbers room) (record { refusal = r; count = m }) t
   fills-by r k m e p q s = record { refusal-is = rw e p; count-is = rw e q; table-is = rw e s }
 
-  refused-by : (r : ℕ) → refusal (source-then src (short-table number numbers room ∷ [])) ≡ r → (r ≡ 0 → ⊥) → t ≡ zeros room
+  refused-by : (r : ℕ) → refusal (source-then src (short-table number numbers room ∷ [])) ≡ r → eqb r 0 ≡ false → t ≡ zeros room
       → Fills (call src number n numbers room) (record { refusal = r; count = 0 }) t
   unfolding filled
-  refused-by r e z q =
-      let d : eqb r 0 ≡ false = ne-eqb r 0 z in
-      fills-by r r 0 e refl (rw d) (rw d q)
+  refused-by r e z q = fills-by r r 0 e refl (rw z) (rw z q)
 
   module _ (r : ℕ) (e : r ≡ refusal (source-then src [])) where
     -- The source is refused,
     pub call-refused : (r ≡ 0 → ⊥) → t ≡ zeros room → Fills (call src number n numbers room) (record { refusal = r; count = 0 }) t
-    call-refused z q = refused-by r (source-refused src r e _ z) z q
+    call-refused z q = refused-by r (source-refused src r e _ z) (ne-eqb r 0 z) q
 
     module _ (z : r ≡ 0) where
       -- or the table,
-      pub call-short : (number ≡ 0 → ⊥) → room < length numbers → t ≡ zeros room
+      pub call-short : eqb number 0 ≡ false → room < length numbers → t ≡ zeros room
           → Fills (call src number n numbers room) (record { refusal = number; count = 0 }) t
       unfolding refusal
       call-short nz h q = refused-by number (source-passed src r e (short-table number numbers room ∷ []) z ∙ rw (lt-ltb room (length numbers) h)) nz q
@@ -117,7 +117,7 @@ module _ (src : List ℕ) (number : ℕ) (numbers : List ℕ) (room r n : ℕ) (
   written-long : length t₁ ≡ room
   written-long = ap length (k .table-is) ∙ length-sets t₀ 0 numbers ∙ ap length b ∙ length-replicate room 0
 
-  pub written-short : (t₂ : List ℕ) → (number ≡ 0 → ⊥) → length t₁ < n → t₂ ≡ zeros (length t₁)
+  pub written-short : (t₂ : List ℕ) → eqb number 0 ≡ false → length t₁ < n → t₂ ≡ zeros (length t₁)
       → Fills (call src number (length numbers) numbers room) (record { refusal = number; count = 0 }) t₂
   written-short t₂ nz h q =
       call-short src number _ numbers room t₂ r e z nz (omega (arith, written-long, k .count-is)) (q ∙ ap zeros written-long)
@@ -126,3 +126,6 @@ module _ (src : List ℕ) (number : ℕ) (numbers : List ℕ) (room r n : ℕ) (
   written-whole h =
       call-whole src number _ numbers room t₁ r e z n (omega (arith, written-long, k .count-is)) (k .count-is)
       (k .table-is ∙ ap (λ t. sets t 0 numbers) b)
+
+  pub written-fits : length numbers ≤ suc (length src) → Fits w32 n
+  written-fits h = omega (arith, k .count-is, source-length src r e z)

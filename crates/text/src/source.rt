@@ -1,4 +1,5 @@
 // The refusals that every call on a source shares: it is too long, or it is not UTF-8.
+use crate::refusal;
 use crate::utf8::Left;
 ghost use mathlib.Core.Path.{_≡_};
 ghost use mathlib.Core.List.{[], _∷_};
@@ -11,11 +12,11 @@ pub fn refused(src: &[u8]) -> u32
     ensures { λ r. ⌜ r ≡ refusal (too-long (now (src .entry)) ∷ not-utf8 (now (src .entry)) ∷ []) ⌝ }
 {
     if LONGEST < src.len() {
-        return 1;
+        return refusal::TOO_LONG;
     }
     match crate::utf8::check(src) {
-        Left::Nothing => 0,
-        Left::Cut => 2,
-        Left::Broken => 2,
+        Left::Nothing => refusal::NONE,
+        Left::Cut => refusal::NOT_UTF8,
+        Left::Broken => refusal::NOT_UTF8,
     }
 }

@@ -1,5 +1,6 @@
 -- `find` looks an offset up in any table.
 use Prim.Native.Nat.{_-_}
+use mathlib.Core.Logic.{⊎-elim}
 use lib.ListN.{length}
 use Rattle.text.proofs.Cases.{cases}
 use Rattle.line_map.proofs.Finding.{Finding, empty, not-zero, start, falls, further, behind, done}
@@ -28,8 +29,5 @@ find-spec =
     (λ c. search cases)
     (λ c. search cases)
     (λ c. search cases)
-    (λ c. search (further, cases))
-    (λ c. search cases)
-    (λ c. search cases)
-    (λ c. search (behind, cases))
+    (λ c. ⊎-elim (λ w. search (further, cases)) (λ w. search (behind, cases)) (c .if4 .came))
     (λ c. search (done, cases)))
