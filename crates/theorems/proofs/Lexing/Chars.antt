@@ -11,7 +11,7 @@ use borrow.Author.Tests.{eqb-true, leb-true}
 use Rattle.definition.specs.Text.{if_then_else_, among}
 use Rattle.definition.specs.Runs.{Run, Row, text, put, list, joined, runs, grouped}
 use Rattle.definition.specs.Newline.{LF, CR, CRLF, char-more, chars}
-use Rattle.theorems.proofs.Lexing.Runs.{joined-grouped, restart}
+use Rattle.theorems.proofs.Lexing.Runs.{joined-runs, restart}
 
 -- What goes on with a character, and the characters after it.
 abbrev pub char-row : ℕ → List ℕ → Row ℕ ℕ
@@ -84,3 +84,8 @@ chars-anew q (b ∷ bs) = refl
 -- The characters after one are those of what it leaves.
 pub chars-later : (c : ℕ) (bs : List ℕ) → char-row c bs .later ≡ chars (drop (length (char-row c bs .text)) bs)
 chars-later c bs = restart (λ q b. b) char-more c bs ∙ chars-anew _ _
+
+-- What goes on with a character is a part of the source.
+pub row-within : (c : ℕ) (bs : List ℕ) → length (char-row c bs .text) ≤ length bs
+row-within c bs =
+    omega (arith, simp length-append at (ap length (joined-runs (λ q b. b) char-more c bs)))

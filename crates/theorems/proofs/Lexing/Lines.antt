@@ -1,16 +1,17 @@
 -- Where lines start, byte by byte: a byte that begins no newline is passed by itself, and a newline gives the start behind it.
-use Prim.Native.Nat.{ℕ, zero, suc, _+_}
+use Prim.Native.Nat.{ℕ, zero, suc, _+_, _≤_}
 use native.Mathlib.Nat.{add-zero}
 use native.Mathlib.Omega.{arith}
 use mathlib.Core.Path.{_≡_, refl, ap, sym, _∙_}
 use mathlib.Core.Bool.{Bool, true, false, true≢false}
-use mathlib.Core.List.{List, [], _∷_}
+use mathlib.Core.List.{List, [], _∷_, _++_}
 use mathlib.Core.Option.{Option, none, some}
-use lib.ListN.{length, drop}
+use lib.ListN.{length, drop, length-append}
 use borrow.Author.Tests.{ne-eqb}
-use Rattle.definition.specs.Runs.{runs, grouped}
+use Rattle.definition.specs.Runs.{Run, text, joined, runs, grouped}
 use Rattle.definition.specs.Newline.{LF, CR, CRLF, char-more, chars, newline}
-use Rattle.definition.specs.LineMap.{newline-ends}
+use Rattle.definition.specs.LineMap.{newline-ends, line-starts}
+use Rattle.theorems.proofs.Lexing.Runs.{joined-grouped}
 use Rattle.theorems.proofs.Lexing.Chars.{char-row, chars-cons, chars-later, row-on, row-off, Goes-on, tail, cr-lf, lf-cr, goes-on, class-on, class-kept}
 
 pub newline-kept : (c : ℕ) (bs : List ℕ) → newline (char-row c bs .kind) ≡ newline c
@@ -60,3 +61,19 @@ ends-cut at c (b ∷ bs) h = go (char-more c b) refl (λ n d k. ends-cut n d bs 
 
 pub ends-other : (at b : ℕ) (bs : List ℕ) → newline b ≡ false → newline-ends at (chars (b ∷ bs)) ≡ newline-ends (at + 1) (chars bs)
 ends-other at b bs h = ends-not at b bs h ∙ ends-cut (at + 1) b bs h
+
+-- A source has at most one line more than bytes.
+ends-few : (at : ℕ) (cs : List (Run ℕ ℕ)) → length (newline-ends at cs) ≤ length (joined cs)
+unfolding newline-ends joined
+ends-few at [] = omega arith
+ends-few at (c ∷ cs) = go (newline (c .kind)) refl (ends-few (at + length (text c)) cs)
+  where
+    go : (t : Bool) → newline (c .kind) ≡ t
+        → length (newline-ends (at + length (text c)) cs) ≤ length (joined cs)
+        → length (newline-ends at (c ∷ cs)) ≤ suc (length (c .tail ++ joined cs))
+    go true e ih = rw (e, newline-ends, length-append) (omega arith)
+    go false e ih = rw (e, newline-ends, length-append) (omega arith)
+
+pub few-lines : (bs : List ℕ) → length (line-starts bs) ≤ suc (length bs)
+unfolding line-starts chars
+few-lines bs = omega (arith, ends-few 0 (chars bs), ap length (joined-grouped (λ q b. b) char-more 0 bs))

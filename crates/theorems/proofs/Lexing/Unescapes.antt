@@ -1,24 +1,25 @@
 -- Unescaping, byte by byte: a byte other than a backslash is kept by itself, and a backslash is dropped with the newline after it or is kept.
-use Prim.Native.Nat.{ℕ, zero, suc}
+use Prim.Native.Nat.{ℕ, zero, suc, _≤_}
 use native.Mathlib.Omega.{arith}
 use mathlib.Core.Path.{_≡_, refl, ap, sym, _∙_}
 use mathlib.Core.Bool.{Bool, true, false, _&&_, false≢true}
 use mathlib.Core.List.{List, [], _∷_, _++_, append-nil}
 use mathlib.Core.Option.{Option, none, some}
 use lib.Dec.{eqb}
-use lib.ListN.{length, drop}
+use lib.ListN.{length, drop, length-append}
 use borrow.Author.Tests.{eq-eqb, ne-eqb, eqb-true}
 use Rattle.definition.specs.Text.{byte}
-use Rattle.definition.specs.Runs.{Run, text, runs, grouped}
+use Rattle.definition.specs.Runs.{Run, text, joined, runs, grouped}
 use Rattle.definition.specs.Newline.{LF, CR, CRLF, char-more, chars, newline}
 use Rattle.definition.specs.Unescaped.{unescaped-chars, unescaped}
+use Rattle.theorems.proofs.Lexing.Runs.{joined-grouped}
 use Rattle.theorems.proofs.Lexing.Chars.{char-row, first-char, chars-cons, chars-later, row-on, row-off, Goes-on, tail, cr-lf, lf-cr, goes-on, class-on, class-kept}
 use Rattle.theorems.proofs.Lexing.Lines.{newline-kept}
 
-abbrev backslash : ℕ → Bool
+abbrev pub backslash : ℕ → Bool
 backslash b = eqb b (byte "\\")
 
-backslash-kept : (c : ℕ) (bs : List ℕ) → backslash (char-row c bs .kind) ≡ backslash c
+pub backslash-kept : (c : ℕ) (bs : List ℕ) → backslash (char-row c bs .kind) ≡ backslash c
 backslash-kept = class-kept backslash refl refl
 
 -- A backslash with a newline after it is dropped with it, and any other character is kept.
@@ -65,7 +66,7 @@ pub unescaped-other : (b : ℕ) (bs : List ℕ) → backslash b ≡ false → un
 unescaped-other b bs h = unescaped-not b bs h ∙ ap (λ r. b ∷ r) (unescaped-cut b bs h)
 
 -- A backslash is a character by itself.
-backslash-char : (bs : List ℕ) → chars (byte "\\" ∷ bs) ≡ record { kind = byte "\\"; head = byte "\\"; tail = [] } ∷ chars bs
+pub backslash-char : (bs : List ℕ) → chars (byte "\\" ∷ bs) ≡ record { kind = byte "\\"; head = byte "\\"; tail = [] } ∷ chars bs
 unfolding chars grouped runs char-more
 backslash-char [] = refl
 backslash-char (b ∷ bs) = refl
@@ -84,3 +85,21 @@ module _ (b : ℕ) (bs : List ℕ) where
   unescaped-newline h =
       rw (backslash-char (b ∷ bs), chars-cons b bs)
       (by-test _ (first-char b bs) _ true (newline-kept b bs ∙ h) ∙ ap unescaped-chars (chars-later b bs))
+
+-- An unescaped text is no longer than the text.
+chars-fewer : (cs : List (Run ℕ ℕ)) → length (unescaped-chars cs) ≤ length (joined cs)
+unfolding unescaped-chars joined
+chars-fewer [] = omega arith
+chars-fewer (c ∷ []) = rw length-append (omega arith)
+chars-fewer (c ∷ d ∷ cs) = go (backslash (c .kind) && newline (d .kind)) refl (chars-fewer cs) (chars-fewer (d ∷ cs))
+  where
+    go : (t : Bool) → backslash (c .kind) && newline (d .kind) ≡ t
+        → length (unescaped-chars cs) ≤ length (joined cs)
+        → length (unescaped-chars (d ∷ cs)) ≤ length (joined (d ∷ cs))
+        → length (unescaped-chars (c ∷ d ∷ cs)) ≤ length (joined (c ∷ d ∷ cs))
+    go true e short long = rw (by-test c d cs true e) (simp length-append (omega arith))
+    go false e short long = rw (by-test c d cs false e) (simp length-append (omega (arith, simp length-append at long)))
+
+pub unescaped-fewer : (bs : List ℕ) → length (unescaped bs) ≤ length bs
+unfolding unescaped chars
+unescaped-fewer bs = omega (arith, chars-fewer (chars bs), ap length (joined-grouped (λ q b. b) char-more 0 bs))

@@ -1,0 +1,58 @@
+-- The loop that fills a line table: what it has written, with the line starts behind its place, is the whole table.
+use Prim.Native.Nat.{ℕ, zero, suc, _+_, _-_, _≤_, _<_}
+use native.Mathlib.Omega.{arith}
+use mathlib.Core.Path.{_≡_, refl, ap, sym, _∙_}
+use mathlib.Core.List.{List, [], _∷_}
+use mir.Val.{Fits}
+use mir.Syntax.{w32, w64}
+use lib.ListN.{length, drop, set}
+use lib.Seq.{sets}
+use Rattle.definition.specs.Newline.{chars}
+use Rattle.definition.specs.LineMap.{newline-ends, line-starts}
+use Rattle.definition.specs.Calls.{longest-source}
+use Rattle.text.specs.Fills.{Written}
+use Rattle.text.specs.Newline.{newline-len}
+use Rattle.text.proofs.Newlines.{newline-within}
+use Rattle.text.proofs.Tables.{Writing, write-more, write-none, write-long}
+use Rattle.line_map.proofs.Ends.{ends-from, none-behind, none-here, one-here}
+
+-- From the table t₀, in which the first line starts, n starts are written, and i bytes are read.
+pub record Filling (src t₀ : List ℕ) (t : List ℕ) (n i : ℕ) : Type 0 where
+  pub within : i ≤ length src
+  pub few : n ≤ i + 1
+  pub writing : Writing (length (line-starts src)) (sets t₀ 1 (ends-from 0 src)) (ends-from i src) n t
+
+pub start : (src t : List ℕ) → Filling src t t 1 0
+unfolding line-starts
+start src t = record { within = omega arith; few = omega arith; writing = record { counted = omega arith; written = refl } }
+
+module _ (src t₀ t : List ℕ) (n i : ℕ) (k : Filling src t₀ t n i) where
+  module _ (w : ℕ) (h : i < length src) (e : w ≡ newline-len (chars (drop i src))) where
+    pub other : w ≡ 0 → Filling src t₀ t n (i + 1)
+    other z = record { within = omega arith; few = omega arith; writing = rw (← none-here src i w h e z) (k .writing) }
+
+    module _ (z : w ≡ 0 → ⊥) where
+      pub further : i + w ≤ length src
+      further = newline-within src i w (k .within) e
+
+      pub another : (t₁ : List ℕ) → t₁ ≡ set t n (i + w) → Filling src t₀ t₁ (n + 1) (i + w)
+      another t₁ q = record {
+        within = further;
+        few = omega arith;
+        writing = write-more _ _ n t (i + w) (ends-from (i + w) src) t₁ (rw (one-here src i w h e z) at (k .writing)) q;
+      }
+
+      pub nearer : length src - (i + w) < length src - i
+      nearer = omega (arith, further)
+
+      pub offset-fits : length src ≤ longest-source → Fits w32 (i + w)
+      offset-fits l = omega (arith, further)
+
+  pub kept : length t ≡ length t₀
+  kept = write-long _ n 1 t t₀ _ (ends-from 0 src) (k .writing)
+
+  pub done : (entry : List ℕ) → t₀ ≡ set entry 0 0 → length src ≤ i → Written (line-starts src) entry n t
+  unfolding line-starts
+  done entry q h =
+      let p = write-none _ _ n t (rw (none-behind src i h) at (k .writing)) in
+      record { count-is = p .0; table-is = p .1 ∙ ap (λ l. sets l 1 (ends-from 0 src)) q }

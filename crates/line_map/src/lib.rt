@@ -1,0 +1,123 @@
+// The line table of a source, and looking an offset up in one (line_map.rs).
+use text::Counted;
+use text::newline;
+use text::refusal;
+use text::source;
+use text::table;
+ghost use mathlib.Core.Path.{_≡_};
+ghost use Prim.Native.Nat.{_≤_};
+ghost use lib.ListN.{length};
+ghost use Rattle.definition.specs.LineMap.{line-starts};
+ghost use Rattle.definition.specs.Calls.{longest-source, building-lines, looking-up};
+ghost use Rattle.line_map.specs.Lookup.{looked, Looks-up};
+ghost use Rattle.text.specs.Fills.{Fills, Written};
+
+// Writes the line starts into a table, as far as it goes, and counts them all.
+fn fill(src: &[u8], lines: &mut [u32]) -> usize
+    requires { ⌜ length (now src) ≤ longest-source ⌝ }
+    ensures { λ r. ⌜ Written (line-starts (now (src .entry))) (now (lines .entry)) r (now (lines .exit)) ⌝ }
+{
+    table::put(lines, 0, 0);
+    let mut n: usize = 1;
+    let mut i = 0;
+    while i < src.len() {
+        let w = newline::newline_at(src, i);
+        if w == 0 {
+            i += 1;
+        } else {
+            i += w;
+            table::put(lines, n, i as u32);
+            n += 1;
+        }
+    }
+    n
+}
+
+// The line table of a source.
+pub fn build(src: &[u8], lines: &mut [u32]) -> Counted
+    ensures { λ r. ⌜ Fills (building-lines (now (src .entry)) (length (now (lines .entry)))) r (now (lines .exit)) ⌝ }
+{
+    table::clear(lines);
+    let refused = source::refused(src);
+    if refused != refusal::NONE {
+        return Counted {
+            refusal: refused,
+            count: 0,
+        };
+    }
+    let n = fill(src, lines);
+    if lines.len() < n {
+        table::clear(lines);
+        return Counted {
+            refusal: refusal::SHORT_LINES,
+            count: 0,
+        };
+    }
+    Counted {
+        refusal: refusal::NONE,
+        count: n as u32,
+    }
+}
+
+// What a lookup finds.
+enum Found {
+    // The offset's line and column.
+    At { line: u32, column: u32 },
+    // The table does not start at 0, or does not rise strictly.
+    NoTable,
+}
+
+// Looks an offset up: the last line whose start is not above it, while the table is seen to rise.
+fn find(lines: &[u32], offset: u32) -> Found
+    ensures { λ r. ⌜ looked r ≡ looking-up (now (lines .entry)) offset ⌝ }
+{
+    if lines.len() == 0 {
+        return Found::NoTable;
+    }
+    if lines[0] != 0 {
+        return Found::NoTable;
+    }
+    let mut line: u32 = 0;
+    let mut column = offset;
+    let mut last: u32 = 0;
+    let mut i = 1;
+    while i < lines.len() {
+        let start = lines[i];
+        if start <= last {
+            return Found::NoTable;
+        }
+        last = start;
+        if start <= offset {
+            line = i as u32;
+            column = offset - start;
+        }
+        i += 1;
+    }
+    Found::At { line, column }
+}
+
+// The answer of a lookup: the refusal number, 0 if none, and the line and the column, both from 0.
+#[repr(C)]
+pub struct Place {
+    pub refusal: u32,
+    pub line: u32,
+    pub column: u32,
+}
+
+// The line and the column of an offset, past the end of the source too.
+pub fn get_line_and_col(lines: &[u32], offset: u32) -> Place
+    ensures { λ r. ⌜ Looks-up (looking-up (now (lines .entry)) offset) r ⌝ }
+{
+    match find(lines, offset) {
+        Found::At { line, column } => Place {
+            refusal: refusal::NONE,
+            line,
+            column,
+        },
+        Found::NoTable => Place {
+            refusal: refusal::NO_LINE_TABLE,
+            line: 0,
+            column: 0,
+        },
+    }
+}

@@ -1,0 +1,75 @@
+// Unescaping a text (unescaped.rs): each backslash is dropped with the one newline after it, and all else is kept.
+use text::Counted;
+use text::newline;
+use text::refusal;
+use text::source;
+use text::table;
+ghost use mathlib.Core.Path.{_≡_};
+ghost use lib.ListN.{length, drop};
+ghost use Rattle.definition.specs.Newline.{chars};
+ghost use Rattle.definition.specs.Unescaped.{unescaped};
+ghost use Rattle.definition.specs.Calls.{unescaping};
+ghost use Rattle.text.specs.Fills.{Fills, Written};
+ghost use Rattle.unescaped.specs.Escape.{escape-len};
+
+// How many bytes the backslash and the newline at a place have; 0: they do not stand there.
+fn escape_at(text: &[u8], at: usize) -> usize
+    ensures { λ r. ⌜ r ≡ escape-len (chars (drop at (now (text .entry)))) ⌝ }
+{
+    if text.len() <= at {
+        return 0;
+    }
+    if text[at] != b'\\' {
+        return 0;
+    }
+    let w = newline::newline_at(text, at + 1);
+    if w == 0 {
+        return 0;
+    }
+    w + 1
+}
+
+// Writes the unescaped text into the output, as far as it goes, and counts all its bytes.
+fn fill(text: &[u8], output: &mut [u8]) -> usize
+    ensures { λ r. ⌜ Written (unescaped (now (text .entry))) (now (output .entry)) r (now (output .exit)) ⌝ }
+{
+    let mut n: usize = 0;
+    let mut i = 0;
+    while i < text.len() {
+        let w = escape_at(text, i);
+        if w == 0 {
+            table::put_byte(output, n, text[i]);
+            n += 1;
+            i += 1;
+        } else {
+            i += w;
+        }
+    }
+    n
+}
+
+// The unescaped text.
+pub fn unescape(text: &[u8], output: &mut [u8]) -> Counted
+    ensures { λ r. ⌜ Fills (unescaping (now (text .entry)) (length (now (output .entry)))) r (now (output .exit)) ⌝ }
+{
+    table::clear_bytes(output);
+    let refused = source::refused(text);
+    if refused != refusal::NONE {
+        return Counted {
+            refusal: refused,
+            count: 0,
+        };
+    }
+    let n = fill(text, output);
+    if output.len() < n {
+        table::clear_bytes(output);
+        return Counted {
+            refusal: refusal::SHORT_OUTPUT,
+            count: 0,
+        };
+    }
+    Counted {
+        refusal: refusal::NONE,
+        count: n as u32,
+    }
+}
