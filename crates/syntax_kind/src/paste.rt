@@ -1,5 +1,6 @@
 // Pasting two kinds (`SyntaxKind::paste`).
 use crate::kind::Kind;
+use text::refusal;
 ghost use mathlib.Core.Path.{_≡_};
 ghost use Rattle.definition.specs.Glue.{pasted-kind};
 ghost use Rattle.definition.specs.Calls.{pasting, no-kind};
@@ -104,19 +105,19 @@ pub fn paste(lhs: u32, rhs: u32) -> Pasted
 {
     if no_kind(lhs) {
         return Pasted {
-            refusal: 9,
+            refusal: refusal::NO_KIND,
             kind: 0,
         };
     }
     if no_kind(rhs) {
         return Pasted {
-            refusal: 9,
+            refusal: refusal::NO_KIND,
             kind: 0,
         };
     }
     let kind = pasted_kind((lhs % 256) as u8, (rhs % 256) as u8);
     Pasted {
-        refusal: 0,
+        refusal: refusal::NONE,
         kind: kind as u32,
     }
 }
