@@ -27,6 +27,7 @@ enum State {
     AfterF4,
 }
 
+// Where a byte leads.
 enum Next {
     To(State),
     Unwanted,
@@ -63,6 +64,7 @@ fn later(low: u8, high: u8, b: u8, s: State) -> Next
     Next::Unwanted
 }
 
+// One byte more in a state.
 fn step(s: State, b: u8) -> Next
     ensures { λ r. ⌜ wanted r ≡ after (wants s) b ⌝ }
 {

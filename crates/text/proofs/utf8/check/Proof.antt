@@ -16,10 +16,6 @@ use Rattle.text.proofs.Cases.{cases}
 use Rattle.text.proofs.Utf8s.{go-on, left-more, left-end}
 use Rattle.text.proofs.utf8.check.Statement.{statement}
 use Rattle.text.proofs.utf8.check.Tie as tie
-use Rattle.text.proofs.utf8.check.Reads as reads
-use Rattle.text.proofs.utf8.check.Lts as lts
-use Rattle.text.proofs.utf8.step.Reads as step-reads
-use Rattle.text.proofs.utf8.end.Reads as end-reads
 
 record Checking (src : List ℕ) (s : State) (i : ℕ) : Type 0 where
   within : i ≤ length src
