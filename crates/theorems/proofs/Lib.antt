@@ -1,8 +1,11 @@
 pub mod Runs
 pub mod Tokens
+pub mod Chars
+pub mod Lines
+pub mod Unescapes
 pub mod Walk
-pub mod Gluing
 pub mod Glues
+pub mod Gluing
 pub mod Sorts
-pub mod Step
 pub mod PreAt
+pub mod Step

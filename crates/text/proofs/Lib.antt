@@ -1,0 +1,5 @@
+pub mod Cases
+pub mod Newlines
+pub mod Refusals
+pub mod Tables
+pub mod Utf8s

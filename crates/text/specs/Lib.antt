@@ -1,0 +1,3 @@
+pub mod Fills
+pub mod Newline
+pub mod Utf8

@@ -1,0 +1,42 @@
+-- The automaton of the UTF-8 check: which bytes each of its states still wants, and what its answer says in the words of the definition.
+use Prim.Native.Nat.{ℕ}
+use mathlib.Core.List.{List, [], _∷_}
+use mathlib.Core.Option.{Option, none, some}
+use Rattle.definition.specs.Text.{if_then_else_}
+use Rattle.definition.specs.Utf8.{Span, _⋯_, within, forms, follow, nothing, cut, broken}
+use Rattle.definition.specs.Utf8 as definition
+use Rattle.text.specs.declared.utf8.State.{State}
+use Rattle.text.specs.declared.utf8.State.the-variants.{Start, Tail1, Tail2, Tail3, AfterE0, AfterED, AfterF0, AfterF4}
+use Rattle.text.specs.declared.utf8.Next.{Next}
+use Rattle.text.specs.declared.utf8.Next.the-variants.{To, Unwanted}
+use Rattle.text.specs.declared.utf8.Left.{Left}
+use Rattle.text.specs.declared.utf8.Left.the-variants.{Nothing, Cut, Broken}
+
+abbrev tail : Span
+tail = 0x80 ⋯ 0xBF
+
+-- The bytes that a state still wants.
+abbrev pub wants : State → List Span
+wants Start = []
+wants Tail1 = tail ∷ []
+wants Tail2 = tail ∷ tail ∷ []
+wants Tail3 = tail ∷ tail ∷ tail ∷ []
+wants AfterE0 = 0xA0 ⋯ 0xBF ∷ tail ∷ []
+wants AfterED = 0x80 ⋯ 0x9F ∷ tail ∷ []
+wants AfterF0 = 0x90 ⋯ 0xBF ∷ tail ∷ tail ∷ []
+wants AfterF4 = 0x80 ⋯ 0x8F ∷ tail ∷ tail ∷ []
+
+abbrev pub wanted : Next → Option (List Span)
+wanted (To s) = some (wants s)
+wanted Unwanted = none
+
+-- The bytes that are still wanted behind one byte more; none: that byte is not wanted.
+unfoldable pub after : List Span → ℕ → Option (List Span)
+after [] b = follow forms b
+after (s ∷ ss) b = if within s b then some ss else none
+
+-- The answer in the definition's words.
+abbrev pub told : Left → definition.Left
+told Nothing = nothing
+told Cut = cut
+told Broken = broken

@@ -1,0 +1,42 @@
+// Lent tables: cleared, and written as far as they go.
+ghost use mathlib.Core.Path.{_≡_};
+ghost use lib.ListN.{length, replicate, set};
+
+// Fills a table with 0.
+pub fn clear(t: &mut [u32])
+    ensures { λ _. ⌜ now (t .exit) ≡ replicate (length (now (t .entry))) 0 ⌝ }
+{
+    let mut i = 0;
+    while i < t.len() {
+        t[i] = 0;
+        i += 1;
+    }
+}
+
+// Puts x at place n, if the table has one.
+pub fn put(t: &mut [u32], n: usize, x: u32)
+    ensures { λ _. ⌜ now (t .exit) ≡ set (now (t .entry)) n x ⌝ }
+{
+    if n < t.len() {
+        t[n] = x;
+    }
+}
+
+// The same of bytes.
+pub fn clear_bytes(t: &mut [u8])
+    ensures { λ _. ⌜ now (t .exit) ≡ replicate (length (now (t .entry))) 0 ⌝ }
+{
+    let mut i = 0;
+    while i < t.len() {
+        t[i] = 0;
+        i += 1;
+    }
+}
+
+pub fn put_byte(t: &mut [u8], n: usize, x: u8)
+    ensures { λ _. ⌜ now (t .exit) ≡ set (now (t .entry)) n x ⌝ }
+{
+    if n < t.len() {
+        t[n] = x;
+    }
+}
