@@ -1,0 +1,2 @@
+// The kinds of tokens and nodes.
+pub mod kind;
