@@ -173,3 +173,18 @@ walk-behind q c (b ∷ bs) = go (char-more c b) refl (λ d. walk-behind q d bs)
     go none e ih =
         rw (row-off c b bs e)
         (walk-free q c (b ∷ bs) (λ x r z. let y : b ≡ x = cc in rw (← y) e) ∙ ap (λ m. record { kind = walk q 0 (b ∷ bs) .kind; long = m }) (omega arith))
+
+-- A finished token has its kind, and no more bytes than its last character.
+pub walk-done : (k c : ℕ) (bs : List ℕ) → walk (done k) c bs .kind ≡ k
+unfolding walk more kind-of
+walk-done k c [] = refl
+walk-done k c (b ∷ bs) = go (char-more c b) refl (λ d. walk-done k d bs)
+  where
+    go : (o : Option ℕ) → char-more c b ≡ o → ((d : ℕ) → walk (done k) d bs .kind ≡ k) → walk (done k) c (b ∷ bs) .kind ≡ k
+    go (some d) e ih = rw (e, walk) (ih d)
+    go none e ih = rw (e, walk)
+
+pub walk-alone : (k c : ℕ) (bs : List ℕ) → ((b : ℕ) (r : List ℕ) → bs ≡ b ∷ r → char-more c b ≡ none) → walk (done k) c bs ≡ record { kind = k; long = 0 }
+unfolding walk more kind-of
+walk-alone k c [] f = refl
+walk-alone k c (b ∷ bs) f = rw (f b bs refl, walk)
