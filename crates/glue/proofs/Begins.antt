@@ -13,8 +13,8 @@ use Rattle.definition.specs.Newline.{class}
 use Rattle.definition.specs.Pre.{State, done, slash, ident, whitespace, quote-string, angle-string, backslash, digits, alone, find, puncts, begin, flag, kind-of}
 use Rattle.definition.specs.Glue.{glued, glues}
 use Rattle.theorems.specs.Step.{glued-kind}
-use Rattle.theorems.proofs.Glues.{every, Loose, loose-none, settled-none, other-none, none-kind}
-use Rattle.theorems.proofs.Sorts.{other, sort, Ends, Of}
+use Rattle.theorems.proofs.Lexing.Glues.{every, Loose, loose-none, settled-none, other-none, none-kind}
+use Rattle.theorems.proofs.Lexing.Sorts.{other, sort, Ends, Of}
 use Rattle.pre.specs.Table.{Entry, punct, entry, entry-of}
 use Rattle.pre.proofs.Classes.{says}
 use Rattle.pre.proofs.States.{begin-letter, begin-digit, begin-newline, begin-blank, begin-slash, begin-backslash, begin-punct, flag-kept}

@@ -13,11 +13,11 @@ use Rattle.definition.specs.Pre.{State, done, digits, begin, flag, kind-of}
 use Rattle.definition.specs.Glue.{glued, glues}
 use Rattle.theorems.specs.Walk.{walk, named}
 use Rattle.theorems.specs.Step.{Stepped, Pre-stepped}
-use Rattle.theorems.proofs.Walk.{walk-done, walk-alone}
-use Rattle.theorems.proofs.Gluing.{glue-on, glue-stop}
-use Rattle.theorems.proofs.Glues.{every, Loose, loose-none, never-period, kind-some, kind-none, none-kind}
-use Rattle.theorems.proofs.Sorts as sorts
-use Rattle.theorems.proofs.PreAt.{walk-at, pre-at}
+use Rattle.theorems.proofs.Lexing.Walk.{walk-done, walk-alone}
+use Rattle.theorems.proofs.Lexing.Gluing.{glue-on, glue-stop}
+use Rattle.theorems.proofs.Lexing.Glues.{every, Loose, loose-none, never-period, kind-some, kind-none, none-kind}
+use Rattle.theorems.proofs.Lexing.Sorts as sorts
+use Rattle.theorems.proofs.Lexing.PreAt.{walk-at, pre-at}
 use Rattle.pre.specs.Table.{Entry, entry}
 use Rattle.pre.proofs.Classes.{Closed, closed-punct}
 use Rattle.glue.specs.Next.{peeked, Operator}

@@ -17,9 +17,9 @@ use Rattle.definition.specs.Pre.{digits, begin, flag}
 use Rattle.definition.specs.Glue.{glued, glues, defined}
 use Rattle.theorems.specs.Walk.{Walk, walk, named}
 use Rattle.theorems.specs.Step.{Stepped, Pre-stepped, Gluing}
-use Rattle.theorems.proofs.Gluing.{glue-on, glue-stop}
-use Rattle.theorems.proofs.Glues.{every, settled-none}
-use Rattle.theorems.proofs.PreAt.{pre-at, glue-settled}
+use Rattle.theorems.proofs.Lexing.Gluing.{glue-on, glue-stop}
+use Rattle.theorems.proofs.Lexing.Glues.{every, settled-none}
+use Rattle.theorems.proofs.Lexing.PreAt.{pre-at, glue-settled}
 use Rattle.pre.specs.Table.{Entry, entry}
 use Rattle.pre.specs.Scan.{from}
 use Rattle.pre.specs.declared.token.Token.{Token}

@@ -11,9 +11,9 @@ use borrow.Author.Tests.{lt-ltb, ltb-true}
 use Rattle.definition.specs.SyntaxKind.{Kind}
 use Rattle.definition.specs.Glue.{glued, glues}
 use Rattle.theorems.specs.Step.{Stepped, Pre-stepped, Gluing}
-use Rattle.theorems.proofs.Gluing.{glue-start}
-use Rattle.theorems.proofs.Glues.{every, settled-none}
-use Rattle.theorems.proofs.PreAt.{glue-settled}
+use Rattle.theorems.proofs.Lexing.Gluing.{glue-start}
+use Rattle.theorems.proofs.Lexing.Glues.{every, settled-none}
+use Rattle.theorems.proofs.Lexing.PreAt.{glue-settled}
 use Rattle.pre.specs.Scan.{first, pre-step}
 use Rattle.pre.specs.declared.PreLexer.{PreLexer}
 use Rattle.pre.specs.declared.PreStep.{PreStep}

@@ -4,7 +4,7 @@ use mathlib.Core.Bool.{Bool}
 use mathlib.Core.List.{List}
 use lib.ListN.{length}
 use Rattle.theorems.specs.Step.{Stepped}
-use Rattle.theorems.proofs.PreAt.{glue-over}
+use Rattle.theorems.proofs.Lexing.PreAt.{glue-over}
 use Rattle.text.proofs.Cases.{cases}
 use Rattle.glue.specs.Next.{Operator}
 use Rattle.glue.proofs.Peeks.{peek-none, peek-some}

@@ -1,5 +1,5 @@
 -- `period` reads the number behind a PERIOD, if there is one.
-use Rattle.theorems.proofs.PreAt.{glue-over}
+use Rattle.theorems.proofs.Lexing.PreAt.{glue-over}
 use Rattle.text.proofs.Cases.{cases}
 use Rattle.glue.proofs.Periods.{period-other, period-digits, period-cut}
 use Rattle.glue.proofs.period.Statement.{statement}

@@ -4,7 +4,7 @@ use mathlib.Core.Path.{_≡_, ap, _∙_}
 use Rattle.definition.specs.SyntaxKind.{Kind}
 use Rattle.definition.specs.Glue.{glued}
 use Rattle.theorems.specs.Step.{glued-kind}
-use Rattle.theorems.proofs.Glues.{other-none, none-kind}
+use Rattle.theorems.proofs.Lexing.Glues.{other-none, none-kind}
 use Rattle.text.proofs.Cases.{cases}
 use Rattle.glue.proofs.operators.glue.Statement.{statement}
 use Rattle.glue.proofs.operators.glue.Tie as tie

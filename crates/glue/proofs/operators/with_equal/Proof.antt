@@ -7,7 +7,7 @@ use borrow.Author.Tests.{ne-eqb}
 use Rattle.definition.specs.SyntaxKind.{Kind}
 use Rattle.definition.specs.Glue.{Glue, glued, glues}
 use Rattle.theorems.specs.Step.{glued-kind}
-use Rattle.theorems.proofs.Glues.{every, glued-none, none-kind}
+use Rattle.theorems.proofs.Lexing.Glues.{every, glued-none, none-kind}
 use Rattle.text.proofs.Cases.{cases}
 use Rattle.glue.proofs.operators.with_equal.Statement.{statement}
 use Rattle.glue.proofs.operators.with_equal.Tie as tie
