@@ -31,10 +31,11 @@ fn put_token(t: &mut [u32], n: usize, kind: u32, start: u32, end: u32)
     ensures { λ _. ⌜ now (t .exit) ≡ sets (now (t .entry)) n (kind ∷ start ∷ end ∷ []) ⌝ }
 {
     if n < t.len() {
+        let room = t.len() - n;
         t[n] = kind;
-        if 1 < t.len() - n {
+        if 1 < room {
             t[n + 1] = start;
-            if 2 < t.len() - n {
+            if 2 < room {
                 t[n + 2] = end;
             }
         }
