@@ -4,3 +4,4 @@ pub mod Outcomes
 pub mod Refusals
 pub mod Tables
 pub mod Utf8s
+pub mod Ascii
