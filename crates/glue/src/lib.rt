@@ -3,6 +3,7 @@ pub mod operators;
 
 use crate::operators::glue;
 use pre::PreLexer;
+use pre::PreNext;
 use pre::class::Class;
 use syntax_kind::kind::Kind;
 ghost use mathlib.Core.Path.{_≡_};
@@ -19,10 +20,16 @@ pub struct Lexer {
     pub input: PreLexer,
 }
 
-// The kind of a token, and the state behind it, where the token ends. At the end of the source the kind is 0.
+// The kind of a token, and the state behind it, where the token ends.
 pub struct Step {
     pub kind: u8,
     pub next: Lexer,
+}
+
+// What a step answers: a token, or the end of the source.
+pub enum Next {
+    Token(Step),
+    End,
 }
 
 // Whether b opens an angle string.
@@ -139,31 +146,27 @@ impl Lexer {
     }
 
     // The token where the lexer stands, and the state behind it.
-    pub fn next(self, src: &[u8], table: &[u8; 256]) -> Step
+    pub fn next(self, src: &[u8], table: &[u8; 256]) -> Next
         requires { ⌜ now table ≡ class-table ⌝ }
         ensures { λ r. ⌜ Nexts (now (src .entry)) self r ⌝ }
     {
         let p = self.input;
-        let at = p.at;
-        let angle = p.angle;
-        if src.len() <= at {
-            return Step {
-                kind: 0,
-                next: Lexer { input: p },
-            };
+        match p.next(src, table) {
+            PreNext::End => Next::End,
+            PreNext::Token(t) => {
+                let k = t.kind;
+                let n = t.next;
+                if operators::settles(k) {
+                    return Next::Token(Step {
+                        kind: k,
+                        next: Lexer { input: n },
+                    });
+                }
+                if k == Kind::PERIOD {
+                    return Next::Token(period(src, table, p.at, p.angle, n.at, n.angle));
+                }
+                Next::Token(operator(src, table, p.at, p.angle, k, n.at, n.angle))
+            }
         }
-        let t = p.next(src, table);
-        let k = t.kind;
-        let n = t.next;
-        if operators::settles(k) {
-            return Step {
-                kind: k,
-                next: Lexer { input: n },
-            };
-        }
-        if k == Kind::PERIOD {
-            return period(src, table, at, angle, n.at, n.angle);
-        }
-        operator(src, table, at, angle, k, n.at, n.angle)
     }
 }
