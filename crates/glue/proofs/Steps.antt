@@ -10,19 +10,11 @@ use lib.ListN.{length}
 use borrow.Author.Tests.{ltb-true, ltb-false}
 use Rattle.definition.specs.SyntaxKind.{Kind}
 use Rattle.definition.specs.Glue.{glued, glues}
-<<<<<<< HEAD
-use Rattle.theorems.specs.Step.{Stepped, Pre-stepped, Gluing}
-use Rattle.theorems.proofs.Lexing.Gluing.{glue-start}
-use Rattle.theorems.proofs.Lexing.Glues.{every, settled-none}
-use Rattle.theorems.proofs.Lexing.PreAt.{glue-settled}
-use Rattle.pre.specs.Scan.{first, pre-step}
-=======
 use Rattle.theorems.specs.Step.{Stepped, Gluing}
 use Rattle.theorems.proofs.Lexing.Gluing.{glue-start}
 use Rattle.theorems.proofs.Lexing.Glues.{every, settled-none}
 use Rattle.theorems.proofs.Lexing.PreAt.{glue-settled}
 use Rattle.pre.specs.Scan.{first, pre-step, pre-next}
->>>>>>> 0de808a
 use Rattle.pre.specs.declared.PreLexer.{PreLexer}
 use Rattle.pre.specs.declared.PreStep.{PreStep}
 use Rattle.pre.specs.declared.PreNext.{PreNext}
