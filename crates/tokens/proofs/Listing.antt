@@ -86,6 +86,12 @@ module _ (s t₀ t : List ℕ) (l : Lexer) (i n : ℕ) (k : Listing s t₀ t l i
           writing = record { counted = omega (arith, v .counted); written = rw (q, e, three) (v .written) };
         }
 
+  pub place-fits : length s ≤ longest-source → Fits w32 i
+  place-fits b = omega (arith, k .within)
+
+  pub number-fits : length s ≤ longest-source → Fits w64 (n + Width.token)
+  number-fits b = omega (arith, k .few, k .within)
+
   pub kept : length t ≡ length t₀
   kept = write-long _ n 0 t t₀ _ (numbers-from false 0 s) (k .writing)
 
