@@ -77,9 +77,9 @@ fn fill(src: &[u8], t: &mut [u32]) -> usize
 pub fn list(src: &[u8], tokens: &mut [u32]) -> Counted
     ensures { λ r. ⌜ Fills (listing-tokens (now (src .entry)) (length (now (tokens .entry)))) r (now (tokens .exit)) ⌝ }
 {
-    table::clear(tokens);
     let refused = source::refused(src);
     if refused != refusal::NONE {
+        table::clear(tokens);
         return Counted {
             refusal: refused,
             count: 0,
@@ -93,6 +93,7 @@ pub fn list(src: &[u8], tokens: &mut [u32]) -> Counted
             count: 0,
         };
     }
+    table::clear(&mut tokens[n..]);
     Counted {
         refusal: refusal::NONE,
         count: (n / WIDTH) as u32,
