@@ -53,7 +53,8 @@ fn peek(table: &[u8; 256], kind: u8, b: u8, angle: bool) -> u8
     glue(kind, pre::class::class_of(table, b))
 }
 
-// The operator of kind `kind` that starts at `start` and has been read up to `at`, with what glues to it.
+// The operator of kind `kind` that has been read up to `at`, with what glues to it. Of `start` and `flag`, where the token
+// starts and whether an angle string was expected there, only the contract speaks.
 fn operator(
     src: &[u8],
     table: &[u8; 256],
@@ -89,7 +90,7 @@ fn operator(
     }
 }
 
-// A PERIOD that starts at `start` and ends at `at`, with the number behind it.
+// A PERIOD that ends at `at`, with the number behind it. Of `start` and `flag` only the contract speaks.
 fn period(src: &[u8], table: &[u8; 256], start: usize, flag: bool, at: usize, angle: bool) -> Step
     requires { ⌜ (now table ≡ class-table) × (Gluing (now src) start flag SyntaxKind.PERIOD at angle) ⌝ }
     ensures { λ r. ⌜ Stepped (now (src .entry)) start flag (r .kind) (r .next .input .at) (r .next .input .angle) ⌝ }

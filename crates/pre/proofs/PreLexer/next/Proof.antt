@@ -22,7 +22,8 @@ module _ (l : PreLexer) (s : List ℕ) where
   unfolding pre-next
   ended h = rw (le-ltb (l .at) (length s) h)
 
-  one : (t : read.Token) (k : ℕ) (f : Bool) → l .at < length s → t ≡ first l s → k ≡ named (t .kind) (take (t .end - l .at) (drop (l .at) s)) → f ≡ flag (l .angle) (getD s (l .at) 0)
+  one : (t : read.Token) (k : ℕ) (f : Bool) → l .at < length s → t ≡ first l s
+      → k ≡ named (t .kind) (take (t .end - l .at) (drop (l .at) s)) → f ≡ flag (l .angle) (getD s (l .at) 0)
       → Token (record { kind = k; next = record { at = t .end; angle = f } }) ≡ pre-next l s
   unfolding pre-step pre-next
   one t k f h e p q = rw (lt-ltb (l .at) (length s) h, ← e, p, q)
