@@ -1,0 +1,6 @@
+pub mod Agrees
+pub mod Compared
+pub mod Numbers
+pub mod Rows
+pub mod Sames
+pub mod Walks

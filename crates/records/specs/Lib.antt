@@ -1,0 +1,4 @@
+pub mod Agrees
+pub mod Compared
+pub mod Numbers
+pub mod Rows
