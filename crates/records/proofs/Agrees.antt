@@ -5,7 +5,7 @@ use mathlib.Core.Path.{_≡_, refl, sym, ap, _∙_}
 use mathlib.Core.Bool.{Bool, true, false}
 use mathlib.Core.List.{List, [], _∷_}
 use lib.Dec.{leb}
-use lib.ListN.{length, take, drop, getD, length-take, length-drop}
+use lib.ListN.{length, take, drop, getD, length-drop}
 use lib.Seq.{drop-cons, take-all, take-at, sets-eq, length-sets}
 use borrow.Author.Tests.{eq-eqb, ne-eqb, le-leb, lt-leb}
 use Rattle.definition.specs.Text.{same}
@@ -18,7 +18,9 @@ use Rattle.line_map.specs.declared.Place.{Place}
 use Rattle.syntax_kind.specs.Pastes.{Pastes}
 use Rattle.syntax_kind.specs.declared.paste.Pasted.{Pasted}
 use Rattle.records.specs.Numbers.{numbers}
-use Rattle.records.specs.Agrees.{most, filled-numbers, looked-numbers, pasted-numbers, source-agrees, lookup-agrees, paste-agrees, call-agrees, agrees}
+use Rattle.records.specs.Rubbish.{most}
+use Rattle.records.specs.Agrees.{filled-numbers, looked-numbers, pasted-numbers, source-agrees, lookup-agrees, paste-agrees, call-agrees, agrees}
+use Rattle.records.proofs.Lent.{lent}
 use Rattle.records.proofs.Sames.{other-length}
 
 -- A slice from a place to its end.
@@ -84,16 +86,9 @@ no-kinds (x ∷ []) answer h = refl
 no-kinds (x ∷ y ∷ given) answer h = absurd (omega arith)
 
 -- A table is lent two numbers shorter than the answer.
-module _ (answer t : List ℕ) (n : ℕ) (e : n ≡ length answer - 2) (h : length answer ≤ most) (l : most ≡ length t) where
-  pub lent-long : n ≡ length (take n t)
-  lent-long = omega (arith, length-take n t)
-
-  pub lent-most : length (take n t) ≤ most
-  lent-most = omega (arith, lent-long)
-
-  pub lent-agrees : (call : List ℕ → ℕ → Filled) (src : List ℕ) (r : Bool)
-      → r ≡ same (filled-numbers (call src (length (take n t)))) answer → r ≡ source-agrees call src answer
-  lent-agrees call src r q = q ∙ rw (← lent-long, e)
+pub lent-agrees : (call : List ℕ → ℕ → Filled) (src answer t : List ℕ) (n : ℕ) (r : Bool) → n ≡ length answer - 2 → n ≤ most → most ≡ length t
+    → r ≡ same (filled-numbers (call src (length (take n t)))) answer → r ≡ source-agrees call src answer
+lent-agrees call src answer t n r e h l q = q ∙ rw (← lent n t h l, e)
 
 -- A row that was written into a table stands in its front.
 pub written-part : (row t t₁ : List ℕ) (n : ℕ) → Written row t n t₁ → n ≤ length t₁ → take n t₁ ≡ row

@@ -2,6 +2,7 @@
 use Rattle.definition.specs.Text.{ℕ, _-_, Bool, true, false, _&&_, List, [], _∷_, eqb, leb, length, same, if_then_else_}
 use Rattle.definition.specs.Calls.{Filled, building-lines, unescaping, Looked, looking-up, Pasted, pasting}
 use Rattle.records.specs.Numbers.{numbers}
+use Rattle.records.specs.Rubbish.{most}
 
 -- The calls by their numbers in a record.
 abbrev pub Call : record { TOKENS : ℕ; LINES : ℕ; UNESCAPE : ℕ; LOOKUP : ℕ; PASTE : ℕ }
@@ -41,11 +42,7 @@ call-agrees call input given answer =
     if eqb call Call.LOOKUP then lookup-agrees given answer else
     if eqb call Call.PASTE then paste-agrees given answer else false
 
--- At most so many numbers are compared; longer ones do not agree.
-abbrev pub most : ℕ
-most = 1_024
-
--- The input and the answer of a record agree.
+-- The input and the answer of a record agree; where one of them has too many numbers, they do not.
 unfoldable pub agrees : ℕ → List ℕ → List ℕ → Bool
 agrees call input answer =
     leb (length (numbers input)) most && leb (length (numbers answer)) most && call-agrees call input (numbers input) (numbers answer)

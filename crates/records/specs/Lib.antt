@@ -2,3 +2,4 @@ pub mod Agrees
 pub mod Compared
 pub mod Numbers
 pub mod Rows
+pub mod Rubbish

@@ -1,6 +1,7 @@
 // Runs a recorded call, and compares its answer with the recorded one.
 use crate::number;
 use crate::number::same;
+use crate::rubbish;
 use text::Counted;
 ghost use mathlib.Core.Path.{_≡_};
 ghost use mathlib.Core.List.{_∷_};
@@ -8,7 +9,8 @@ ghost use Prim.Native.Nat.{_-_, _≤_};
 ghost use lib.ListN.{length};
 ghost use Rattle.definition.specs.Text.{same as Text·same};
 ghost use Rattle.definition.specs.Calls.{building-lines, unescaping};
-ghost use Rattle.records.specs.Agrees.{most, filled-numbers, source-agrees, lookup-agrees, paste-agrees, call-agrees};
+ghost use Rattle.records.specs.Rubbish.{most};
+ghost use Rattle.records.specs.Agrees.{filled-numbers, source-agrees, lookup-agrees, paste-agrees, call-agrees};
 ghost use Rattle.records.specs.Agrees.{agrees as Agrees·agrees};
 
 // The calls by their numbers in a record.
@@ -22,30 +24,11 @@ pub const LOOKUP: u8 = 4;
 
 pub const PASTE: u8 = 5;
 
-// At most so many numbers are compared.
-const MOST: usize = 1024;
-
-// What a table holds before the call.
-const RUBBISH: u32 = 0xA5A5_A5A5;
-
-const RUBBISH_BYTE: u8 = 0xA5;
-
-// Tables full of it.
-fn rubbish() -> [u32; MOST]
-    ensures { λ r. ⌜ most ≡ length r ⌝ }
-{
-    [RUBBISH; MOST]
-}
-
-fn rubbish_bytes() -> [u8; MOST]
-    ensures { λ r. ⌜ most ≡ length r ⌝ }
-{
-    [RUBBISH_BYTE; MOST]
-}
-
 // How long a table is lent: two numbers shorter than the answer.
 fn room(answer: &[u32]) -> usize
+    requires { ⌜ length (now answer) ≤ most ⌝ }
     ensures { λ r. ⌜ r ≡ length (now (answer .entry)) - 2 ⌝ }
+    ensures { λ r. ⌜ r ≤ most ⌝ }
 {
     if answer.len() < 2 {
         return 0;
@@ -81,7 +64,7 @@ fn lines(src: &[u8], answer: &[u32]) -> bool
     requires { ⌜ length (now answer) ≤ most ⌝ }
     ensures { λ r. ⌜ r ≡ source-agrees building-lines (now (src .entry)) (now (answer .entry)) ⌝ }
 {
-    let mut table = rubbish();
+    let mut table = rubbish::numbers();
     let n = room(answer);
     lines_into(src, &mut table[..n], answer)
 }
@@ -92,7 +75,7 @@ fn unescape_into(src: &[u8], output: &mut [u8], answer: &[u32]) -> bool
     ensures { λ r. ⌜ r ≡ Text·same (filled-numbers (unescaping (now (src .entry)) (length (now (output .entry))))) (now (answer .entry)) ⌝ }
 {
     let got = shader_reader::shader_unescape(src, output);
-    let mut table = rubbish();
+    let mut table = rubbish::numbers();
     let n = number::widen(output, &mut table);
     counted(got, &table[..n], answer)
 }
@@ -101,7 +84,7 @@ fn unescape(src: &[u8], answer: &[u32]) -> bool
     requires { ⌜ length (now answer) ≤ most ⌝ }
     ensures { λ r. ⌜ r ≡ source-agrees unescaping (now (src .entry)) (now (answer .entry)) ⌝ }
 {
-    let mut output = rubbish_bytes();
+    let mut output = rubbish::bytes();
     let n = room(answer);
     unescape_into(src, &mut output[..n], answer)
 }
@@ -147,14 +130,14 @@ fn call_agrees(call: u8, input: &[u8], given: &[u32], answer: &[u32]) -> bool
 pub fn agrees(call: u8, input: &[u8], answer: &[u8]) -> bool
     ensures { λ r. ⌜ r ≡ Agrees·agrees call (now (input .entry)) (now (answer .entry)) ⌝ }
 {
-    let mut given = rubbish();
+    let mut given = rubbish::numbers();
     let n = number::decode(input, &mut given);
-    if MOST < n {
+    if rubbish::MOST < n {
         return false;
     }
-    let mut numbers = rubbish();
+    let mut numbers = rubbish::numbers();
     let m = number::decode(answer, &mut numbers);
-    if MOST < m {
+    if rubbish::MOST < m {
         return false;
     }
     call_agrees(call, input, &given[..n], &numbers[..m])

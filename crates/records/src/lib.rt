@@ -2,6 +2,7 @@
 pub mod agree;
 pub mod number;
 pub mod record;
+pub mod rubbish;
 
 use agree::agrees;
 use record::Found;

@@ -1,6 +1,7 @@
 -- `unescape` lends an output two numbers shorter than the answer.
 use Rattle.text.proofs.Cases.{cases}
-use Rattle.records.proofs.Agrees.{lent-long, lent-most, lent-agrees}
+use Rattle.records.proofs.Lent.{lent, lent-most}
+use Rattle.records.proofs.Agrees.{lent-agrees}
 use Rattle.records.proofs.agree.unescape.Statement.{statement}
 use Rattle.records.proofs.agree.unescape.Tie as tie
 
@@ -11,6 +12,6 @@ unescape-spec =
     (λ c κs. search cases)
     (λ c κs. search cases)
     (λ c. search cases)
-    (λ c. search (lent-long, cases))
+    (λ c. search (lent, cases))
     (λ c κs. search (lent-most, cases))
     (λ c. search (lent-agrees, cases)))
