@@ -1,14 +1,14 @@
 -- The loop that fills a line table: what it has written, with the line starts behind its place, is the whole table.
-use Prim.Native.Nat.{ℕ, zero, suc, _+_, _-_, _≤_, _<_}
+use Prim.Native.Nat.{ℕ, _+_, _-_, _≤_, _<_}
 use native.Mathlib.Omega.{arith}
-use mathlib.Core.Path.{_≡_, refl, ap, sym, _∙_}
-use mathlib.Core.List.{List, [], _∷_}
+use mathlib.Core.Path.{_≡_, refl, ap, _∙_}
+use mathlib.Core.List.{List}
 use mir.Val.{Fits}
-use mir.Syntax.{w32, w64}
+use mir.Syntax.{w32}
 use lib.ListN.{length, drop, set}
 use lib.Seq.{sets}
 use Rattle.definition.specs.Newline.{chars}
-use Rattle.definition.specs.LineMap.{newline-ends, line-starts}
+use Rattle.definition.specs.LineMap.{line-starts}
 use Rattle.definition.specs.Calls.{longest-source}
 use Rattle.text.specs.Fills.{Written}
 use Rattle.text.specs.Newline.{newline-len}

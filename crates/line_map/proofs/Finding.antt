@@ -1,19 +1,18 @@
 -- The loop that looks an offset up: the line found so far, with the starts that are left, decides the whole lookup.
-use Prim.Native.Nat.{ℕ, zero, suc, _+_, _-_, _≤_, _<_}
+use Prim.Native.Nat.{ℕ, suc, _+_, _-_, _≤_, _<_}
 use native.Mathlib.Numerals.{add-one}
 use native.Mathlib.Nat.{sub-zero}
 use native.Mathlib.Omega.{arith}
-use mathlib.Core.Path.{_≡_, refl, ap, sym, _∙_}
-use mathlib.Core.Bool.{Bool, true, false, _&&_}
-use mathlib.Core.List.{List, [], _∷_}
-use lib.Dec.{eqb, ltb, leb}
+use mathlib.Core.Path.{_≡_, refl, ap, _∙_}
+use mathlib.Core.Bool.{true, false, _&&_}
+use mathlib.Core.List.{List, _∷_}
+use lib.Dec.{leb}
 use lib.ListN.{length, drop, getD, drop-of-length-le}
 use lib.Seq.{drop-cons}
-use borrow.Author.Tests.{lt-ltb, le-ltb, le-leb, lt-leb, eq-eqb, ne-eqb}
+use borrow.Author.Tests.{lt-ltb, le-ltb, le-leb, lt-leb, ne-eqb}
 use Rattle.definition.specs.Text.{if_then_else_}
 use Rattle.definition.specs.LineMap.{LineCol, last-line, get-line-and-col, rises, line-table}
 use Rattle.definition.specs.Calls.{refusal, looking-up}
-use Rattle.line_map.specs.declared.Found.{Found}
 use Rattle.line_map.specs.declared.Found.the-variants.{At, NoTable}
 use Rattle.line_map.specs.Lookup.{looked}
 

@@ -1,5 +1,4 @@
 -- What a lookup promises: its answer is that of an outcome.
-use Prim.Native.Nat.{ℕ}
 use mathlib.Core.Path.{_≡_}
 use Rattle.definition.specs.Calls.{Looked}
 use Rattle.line_map.specs.declared.Found.{Found}

@@ -4,10 +4,18 @@ use line_map::Place;
 use syntax_kind::paste::Pasted;
 use text::Counted;
 ghost use lib.ListN.{length};
-ghost use Rattle.definition.specs.Calls.{building-lines, unescaping, looking-up, pasting};
+ghost use Rattle.definition.specs.Calls.{listing-tokens, building-lines, unescaping, looking-up, pasting};
 ghost use Rattle.text.specs.Fills.{Fills};
 ghost use Rattle.line_map.specs.Lookup.{Looks-up};
 ghost use Rattle.syntax_kind.specs.Pastes.{Pastes};
+
+// Lists the tokens of a source: kind, start and end of each, angle strings never expected.
+#[no_mangle]
+pub extern "C" fn shader_tokens(src: &[u8], tokens: &mut [u32]) -> Counted
+    ensures { λ r. ⌜ Fills (listing-tokens (now (src .entry)) (length (now (tokens .entry)))) r (now (tokens .exit)) ⌝ }
+{
+    tokens::list(src, tokens)
+}
 
 // Builds the line table of a source.
 #[no_mangle]

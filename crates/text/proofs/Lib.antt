@@ -1,5 +1,7 @@
 pub mod Cases
 pub mod Newlines
+pub mod Outcomes
 pub mod Refusals
 pub mod Tables
 pub mod Utf8s
+pub mod Ascii

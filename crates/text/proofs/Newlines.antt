@@ -1,12 +1,12 @@
 -- The newline at a place of a source, by its first two bytes; and where it ends.
-use Prim.Native.Nat.{ℕ, zero, suc, _+_, _≤_, _<_}
+use Prim.Native.Nat.{ℕ, suc, _+_, _≤_, _<_}
 use native.Mathlib.Numerals.{add-one}
 use native.Mathlib.Nat.{add-zero, suc-ne-zero}
 use native.Mathlib.Omega.{arith}
-use mathlib.Core.Path.{_≡_, refl, ap, sym, _∙_}
+use mathlib.Core.Path.{_≡_, refl, sym, _∙_}
 use mathlib.Core.Bool.{Bool, true, false, or-false}
 use mathlib.Core.List.{List, [], _∷_}
-use mathlib.Core.Option.{Option, none, some}
+use mathlib.Core.Option.{none, some}
 use lib.Dec.{eqb}
 use lib.ListN.{length, drop, getD, length-drop, drop-of-length-le}
 use lib.Seq.{drop-cons, getD-drop}
@@ -48,6 +48,7 @@ pub newline-len-cons : (b : ℕ) (bs : List ℕ) → newline-len (chars (b ∷ b
 unfolding newline-len
 newline-len-cons b bs = rw (chars-cons b bs, newline-kept b bs)
 
+-- The newline of a row, by its first two bytes.
 pair-is : (a : ℕ) (bs : List ℕ) → a < 256 → newline-len (chars (a ∷ bs)) ≡ newline-pair a (getD bs 0 0)
 pair-is a bs h = newline-len-cons a bs ∙ go (eqb a LF) refl (eqb a CR) refl
   where
@@ -66,6 +67,7 @@ unfolding newline-len chars grouped
 newline-short [] = omega arith
 newline-short (b ∷ bs) = rw (newline-len-cons b bs) (at-most (newline b) _ _ (row-within b bs))
 
+-- A test by what it chooses: a number that is not 0, or 0.
 is-none : (t : Bool) (n : ℕ) → (if t then suc n else 0) ≡ 0 → t ≡ false
 is-none true n e = absurd (suc-ne-zero n e)
 is-none false n e = refl

@@ -1,7 +1,11 @@
 -- The automaton of the UTF-8 check: which bytes each of its states still wants, and what its answer says in the words of the definition.
-use Prim.Native.Nat.{ℕ}
+use Prim.Native.Nat.{ℕ, zero, suc, _+_, _/_, _≤_}
+use mathlib.Core.Path.{_≡_}
+use mathlib.Core.Bool.{Bool, true, false, _&&_}
 use mathlib.Core.List.{List, [], _∷_}
 use mathlib.Core.Option.{Option, none, some}
+use lib.Dec.{leb, ltb}
+use lib.ListN.{length, getD}
 use Rattle.definition.specs.Text.{if_then_else_}
 use Rattle.definition.specs.Utf8.{Span, _⋯_, within, forms, follow, nothing, cut, broken}
 use Rattle.definition.specs.Utf8 as definition
@@ -40,3 +44,31 @@ abbrev pub told : Left → definition.Left
 told Nothing = nothing
 told Cut = cut
 told Broken = broken
+
+-- A byte is ASCII below 128.
+pub record High (b r : ℕ) : Type 0 where
+  pub is : r ≡ b / 128
+  pub small : r ≤ 1
+
+-- So many bytes from a place on are ASCII.
+unfoldable pub low-from : ℕ → ℕ → List ℕ → Bool
+low-from zero at s = true
+low-from (suc n) at s = ltb (getD s at 0) 128 && low-from n (at + 1) s
+
+unfoldable pub eight-low : List ℕ → ℕ → Bool
+eight-low s at = leb (at + 8) (length s) && low-from 8 at s
+
+-- Any character may follow.
+abbrev pub starts : State → Bool
+starts Start = true
+starts Tail1 = false
+starts Tail2 = false
+starts Tail3 = false
+starts AfterE0 = false
+starts AfterED = false
+starts AfterF0 = false
+starts AfterF4 = false
+
+-- How many bytes of ASCII may be passed over.
+unfoldable pub passes : State → List ℕ → ℕ → ℕ
+passes q s at = if starts q && eight-low s at then 8 else 0

@@ -22,21 +22,22 @@ pub fn put(t: &mut [u32], n: usize, x: u32)
     }
 }
 
-// The same of bytes.
-pub fn clear_bytes(t: &mut [u8])
-    ensures { λ _. ⌜ now (t .exit) ≡ replicate (length (now (t .entry))) 0 ⌝ }
+// Fills an output of bytes with 0.
+pub fn clear_bytes(output: &mut [u8])
+    ensures { λ _. ⌜ now (output .exit) ≡ replicate (length (now (output .entry))) 0 ⌝ }
 {
     let mut i = 0;
-    while i < t.len() {
-        t[i] = 0;
+    while i < output.len() {
+        output[i] = 0;
         i += 1;
     }
 }
 
-pub fn put_byte(t: &mut [u8], n: usize, x: u8)
-    ensures { λ _. ⌜ now (t .exit) ≡ set (now (t .entry)) n x ⌝ }
+// Puts b at place n, if the output has one.
+pub fn put_byte(output: &mut [u8], n: usize, b: u8)
+    ensures { λ _. ⌜ now (output .exit) ≡ set (now (output .entry)) n b ⌝ }
 {
-    if n < t.len() {
-        t[n] = x;
+    if n < output.len() {
+        output[n] = b;
     }
 }

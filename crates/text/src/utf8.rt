@@ -3,7 +3,7 @@ ghost use mathlib.Core.Path.{_≡_};
 ghost use mathlib.Core.List.{[]};
 ghost use Rattle.definition.specs.Text.{if_then_else_, none, some};
 ghost use Rattle.definition.specs.Utf8.{_⋯_, within, forms, follow, left};
-ghost use Rattle.text.specs.Utf8.{wants, wanted, after, told};
+ghost use Rattle.text.specs.Utf8.{wants, wanted, after, told, High, eight-low, starts, passes};
 
 // What is left of a source when whole characters are taken off its front.
 pub enum Left {
@@ -27,6 +27,7 @@ enum State {
     AfterF4,
 }
 
+// Where a byte leads.
 enum Next {
     To(State),
     Unwanted,
@@ -63,6 +64,7 @@ fn later(low: u8, high: u8, b: u8, s: State) -> Next
     Next::Unwanted
 }
 
+// One byte more in a state.
 fn step(s: State, b: u8) -> Next
     ensures { λ r. ⌜ wanted r ≡ after (wants s) b ⌝ }
 {
@@ -94,6 +96,62 @@ fn end(s: State) -> Left
     }
 }
 
+// Whether a byte is no ASCII: 1 if so.
+fn high(b: u8) -> u32
+    ensures { λ r. ⌜ High b r ⌝ }
+{
+    (b / 128) as u32
+}
+
+// Whether eight bytes of ASCII stand at a place.
+fn eight_ascii(src: &[u8], at: usize) -> bool
+    ensures { λ r. ⌜ r ≡ eight-low (now (src .entry)) at ⌝ }
+{
+    if src.len() <= at {
+        return false;
+    }
+    if src.len() - at < 8 {
+        return false;
+    }
+    let h7 = high(src[at + 7]);
+    let h6 = high(src[at + 6]) + h7;
+    let h5 = high(src[at + 5]) + h6;
+    let h4 = high(src[at + 4]) + h5;
+    let h3 = high(src[at + 3]) + h4;
+    let h2 = high(src[at + 2]) + h3;
+    let h1 = high(src[at + 1]) + h2;
+    high(src[at]) + h1 == 0
+}
+
+// Whether any character may follow.
+fn is_start(s: State) -> bool
+    ensures { λ r. ⌜ r ≡ starts s ⌝ }
+{
+    match s {
+        State::Start => true,
+        State::Tail1 => false,
+        State::Tail2 => false,
+        State::Tail3 => false,
+        State::AfterE0 => false,
+        State::AfterED => false,
+        State::AfterF0 => false,
+        State::AfterF4 => false,
+    }
+}
+
+// How many bytes of ASCII may be passed over in a state: eight or none.
+fn passed(s: State, src: &[u8], at: usize) -> usize
+    ensures { λ r. ⌜ r ≡ passes s (now (src .entry)) at ⌝ }
+{
+    if is_start(s) {
+        if eight_ascii(src, at) {
+            return 8;
+        }
+        return 0;
+    }
+    0
+}
+
 // Whether the bytes are UTF-8, and if not, why.
 pub fn check(src: &[u8]) -> Left
     ensures { λ r. ⌜ told r ≡ left [] (now (src .entry)) ⌝ }
@@ -101,14 +159,19 @@ pub fn check(src: &[u8]) -> Left
     let mut s = State::Start;
     let mut i = 0;
     while i < src.len() {
-        let b = src[i];
-        match step(s, b) {
-            Next::To(t) => {
-                s = t;
-                i += 1;
-            }
-            Next::Unwanted => {
-                return Left::Broken;
+        let w = passed(s, src, i);
+        if 0 < w {
+            i += w;
+        } else {
+            let b = src[i];
+            match step(s, b) {
+                Next::To(t) => {
+                    s = t;
+                    i += 1;
+                }
+                Next::Unwanted => {
+                    return Left::Broken;
+                }
             }
         }
     }

@@ -1,8 +1,8 @@
 -- The loop that unescapes: what it has written, with what is left of the text unescaped, is the whole output.
-use Prim.Native.Nat.{ℕ, zero, suc, _+_, _-_, _≤_, _<_}
+use Prim.Native.Nat.{ℕ, _+_, _-_, _≤_, _<_}
 use native.Mathlib.Omega.{arith}
-use mathlib.Core.Path.{_≡_, refl, ap, sym, _∙_}
-use mathlib.Core.List.{List, [], _∷_}
+use mathlib.Core.Path.{_≡_, refl}
+use mathlib.Core.List.{List}
 use lib.ListN.{length, drop, getD, set, drop-of-length-le}
 use lib.Seq.{sets}
 use Rattle.definition.specs.Runs.{grouped}

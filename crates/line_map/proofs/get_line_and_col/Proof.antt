@@ -1,6 +1,6 @@
 -- `get_line_and_col` answers what `find` finds.
 use Prim.Native.Nat.{ℕ}
-use mathlib.Core.Path.{_≡_, refl, sym, ap, _∙_}
+use mathlib.Core.Path.{_≡_, sym, ap, _∙_}
 use Rattle.definition.specs.Calls.{Looked}
 use Rattle.text.proofs.Cases.{cases}
 use Rattle.line_map.specs.declared.Found.{Found}

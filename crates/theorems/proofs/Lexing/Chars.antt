@@ -1,15 +1,15 @@
 -- The characters of a source: which bytes go on with one, of which kind it ends, and that those after it are the characters of what it leaves.
-use Prim.Native.Nat.{ℕ, zero, suc, _+_, _≤_, _<_}
+use Prim.Native.Nat.{ℕ, _≤_}
 use native.Mathlib.Omega.{arith}
 use mathlib.Core.Path.{_≡_, refl, ap, sym, _∙_}
 use mathlib.Core.Bool.{Bool, true, false, _&&_, _||_, and-eq-true-iff}
-use mathlib.Core.List.{List, [], _∷_, _++_}
+use mathlib.Core.List.{List, [], _∷_}
 use mathlib.Core.Option.{Option, none, some}
 use lib.Dec.{eqb, leb}
 use lib.ListN.{length, drop, length-append}
 use borrow.Author.Tests.{eqb-true, leb-true}
 use Rattle.definition.specs.Text.{if_then_else_, among}
-use Rattle.definition.specs.Runs.{Run, Row, text, put, list, joined, runs, grouped}
+use Rattle.definition.specs.Runs.{Run, Row, text, put, runs, grouped}
 use Rattle.definition.specs.Newline.{LF, CR, CRLF, char-more, chars}
 use Rattle.theorems.proofs.Lexing.Runs.{joined-runs, restart}
 

@@ -1,8 +1,10 @@
 -- The tokens of a source join to it.
-use Prim.Native.Nat.{ℕ}
+use Prim.Native.Nat.{ℕ, _≤_}
 use mathlib.Core.Path.{_≡_, refl, ap, sym, _∙_}
 use mathlib.Core.Bool.{Bool}
 use mathlib.Core.List.{List, [], _∷_, _++_, map, append-assoc}
+use lib.ListN.{length, length-append}
+use native.Mathlib.Omega.{arith}
 use Rattle.definition.specs.Runs.{Run, joined, grouped}
 use Rattle.definition.specs.Newline.{chars, char-more}
 use Rattle.definition.specs.Pre.{pres, Pre, pre-begin, pre-more}
@@ -24,3 +26,12 @@ joined-tokens f bs =
     ∙ joined-flat pre-kind _
     ∙ ap joined (joined-grouped _ _ _ _)
     ∙ joined-grouped _ _ _ _
+
+-- No more tokens than bytes.
+few : (ts : List Token) → length ts ≤ length (joined ts)
+unfolding joined
+few [] = omega arith
+few (t ∷ ts) = let h = few ts in simp length-append (omega arith)
+
+pub few-tokens : (f : Bool) (bs : List ℕ) → length (tokens f bs) ≤ length bs
+few-tokens f bs = rw (joined-tokens f bs) at (few (tokens f bs))

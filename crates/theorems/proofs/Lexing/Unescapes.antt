@@ -1,16 +1,16 @@
 -- Unescaping, byte by byte: a byte other than a backslash is kept by itself, and a backslash is dropped with the newline after it or is kept.
-use Prim.Native.Nat.{ℕ, zero, suc, _≤_}
+use Prim.Native.Nat.{ℕ, _≤_}
 use native.Mathlib.Omega.{arith}
 use mathlib.Core.Path.{_≡_, refl, ap, sym, _∙_}
-use mathlib.Core.Bool.{Bool, true, false, _&&_, false≢true}
+use mathlib.Core.Bool.{Bool, true, false, _&&_}
 use mathlib.Core.List.{List, [], _∷_, _++_, append-nil}
 use mathlib.Core.Option.{Option, none, some}
 use lib.Dec.{eqb}
 use lib.ListN.{length, drop, length-append}
-use borrow.Author.Tests.{eq-eqb, ne-eqb, eqb-true}
+use borrow.Author.Tests.{ne-eqb}
 use Rattle.definition.specs.Text.{byte}
 use Rattle.definition.specs.Runs.{Run, text, joined, runs, grouped}
-use Rattle.definition.specs.Newline.{LF, CR, CRLF, char-more, chars, newline}
+use Rattle.definition.specs.Newline.{char-more, chars, newline}
 use Rattle.definition.specs.Unescaped.{unescaped-chars, unescaped}
 use Rattle.theorems.proofs.Lexing.Runs.{joined-grouped}
 use Rattle.theorems.proofs.Lexing.Chars.{char-row, first-char, chars-cons, chars-later, row-on, row-off, Goes-on, tail, cr-lf, lf-cr, goes-on, class-on, class-kept}

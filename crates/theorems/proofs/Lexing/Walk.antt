@@ -1,33 +1,22 @@
 -- The pre-tokens of a source are those that the automaton over bytes finds.
-use Prim.Native.Nat.{ℕ, suc, _≤_}
-use mathlib.Core.Path.{_≡_, refl, ap, _∙_, subst}
-use mathlib.Core.Bool.{Bool, true, false, _&&_, _||_}
+use Prim.Native.Nat.{ℕ, suc, _+_, _≤_}
+use mathlib.Core.Path.{_≡_, refl, ap, _∙_}
+use mathlib.Core.Bool.{Bool}
 use mathlib.Core.List.{List, [], _∷_, _++_, map}
 use mathlib.Core.Option.{Option, none, some}
 use lib.ListN.{length, take, drop}
-use lib.Dec.{eqb}
 use native.Mathlib.Omega.{arith}
-use borrow.Author.Tests.{eqb-true}
-use Rattle.definition.specs.Text.{if_then_else_, among}
 use Rattle.definition.specs.Runs.{Run, Row, joined, put, list, runs, grouped}
 use Rattle.definition.specs.Newline.{LF, CR, CRLF, char-more, chars}
 use Rattle.definition.specs.Unescaped.{unescaped}
 use Rattle.definition.specs.Pre.{State, Pre, done, slash, ident, single-comment, multi-comment, multi-comment-star, whitespace, quote-string, angle-string, backslash, digits, alone, in-ident, in-comment, in-digits, begin, flag, more, kind-of, pre-begin, pre-more, pres}
 use Rattle.definition.specs.Glue.{flat, pre-kind}
+use Rattle.theorems.proofs.Lexing.Chars.{char-row, first-char, row-on, row-off, Goes-on, tail, cr-lf, lf-cr, goes-on}
 use Rattle.theorems.specs.Walk.{Walk, longer, walk, named, pre-tokens, pre-token}
 
--- The rows of characters and of pre-tokens that are being read.
-abbrev pub char-row : ℕ → List ℕ → Row ℕ ℕ
-char-row c bs = runs (λ q b. b) char-more c bs
-
+-- The row of pre-tokens that is being read.
 abbrev pre-row : State → Bool → List (Run ℕ ℕ) → Row (Run ℕ ℕ) Pre
 pre-row q f cs = runs pre-begin pre-more (record { at = q; wants = f }) cs
-
--- The character k acts as its first byte b does.
-record Like (b k : ℕ) : Type 0 where
-  begins : (f : Bool) → begin f k ≡ begin f b
-  flags : (f : Bool) → flag f k ≡ flag f b
-  mores : (q : State) → more q k ≡ more q b
 
 -- Two newline characters as one act as either of them.
 more-pair : (q : State) → (more q CRLF ≡ more q CR) × (more q CRLF ≡ more q LF)
@@ -47,47 +36,35 @@ more-pair (backslash in-comment) = (refl, refl)
 more-pair (backslash (in-digits e d)) = (refl, refl)
 more-pair (digits e d) = (refl, refl)
 
-like-CR : (c c′ : ℕ) → c ≡ CR → CRLF ≡ c′ → Like c c′
-unfolding begin flag
-like-CR c c′ e p = rw (e, ← p) (record { begins = λ f. refl; flags = λ f. refl; mores = λ q. more-pair q .0 })
+-- What does not tell the newline characters from the two as one acts on a character as on its first byte.
+module _ {A : Type 0} (p : ℕ → A) (cr : p CRLF ≡ p CR) (lf : p CRLF ≡ p LF) where
+  acts-on : (c b d : ℕ) → Goes-on c b d → p d ≡ p c
+  acts-on c b d (tail e h k) = ap p e
+  acts-on c b d (cr-lf e h k) = rw (e, h) cr
+  acts-on c b d (lf-cr e h k) = rw (e, h) lf
 
-like-LF : (c c′ : ℕ) → c ≡ LF → CRLF ≡ c′ → Like c c′
-unfolding begin flag
-like-LF c c′ e p = rw (e, ← p) (record { begins = λ f. refl; flags = λ f. refl; mores = λ q. more-pair q .1 })
+  pub acts-kept : (c : ℕ) (bs : List ℕ) → p (char-row c bs .kind) ≡ p c
+  unfolding runs
+  acts-kept c [] = refl
+  acts-kept c (b ∷ bs) = go (char-more c b) refl (λ d. acts-kept d bs)
+    where
+      go : (o : Option ℕ) → char-more c b ≡ o → ((d : ℕ) → p (char-row d bs .kind) ≡ p d) → p (char-row c (b ∷ bs) .kind) ≡ p c
+      go (some d) e ih = rw (row-on c b bs d e) (ih d ∙ acts-on c b d (goes-on c b d e))
+      go none e ih = rw (row-off c b bs e) refl
 
-like-same : (b : ℕ) → Like b b
-like-same b = record { begins = λ f. refl; flags = λ f. refl; mores = λ q. refl }
+begins : (f : Bool) (c : ℕ) (bs : List ℕ) → begin f (char-row c bs .kind) ≡ begin f c
+unfolding begin
+begins f = acts-kept (begin f) refl refl
 
-like-trans : (a b c : ℕ) → Like a b → Like b c → Like a c
-like-trans a b c p q = record { begins = λ f. q .begins f ∙ p .begins f; flags = λ f. q .flags f ∙ p .flags f; mores = λ s. q .mores s ∙ p .mores s }
+flags : (f : Bool) (c : ℕ) (bs : List ℕ) → flag f (char-row c bs .kind) ≡ flag f c
+unfolding flag
+flags f = acts-kept (flag f) refl refl
 
--- A byte that goes on with a character leaves how that acts as it was.
-like-more : (c b c′ : ℕ) → char-more c b ≡ some c′ → Like c c′
-unfolding char-more
-like-more c b c′ e =
-    go (among 192 255 c && among 128 191 b) (eqb c CR) (eqb c LF) (eqb b LF) (eqb b CR) e (eqb-true c CR) (eqb-true c LF)
-  where
-    go : (t u v x y : Bool) → (if t then some c else if (u && x) || (v && y) then some CRLF else none) ≡ some c′
-        → (u ≡ true → c ≡ CR) → (v ≡ true → c ≡ LF) → Like c c′
-    go true u v x y e h k = let p : c ≡ c′ = cc in subst (λ n. Like c n) p (like-same c)
-    go false true v true y e h k = like-CR c c′ (h refl) (cc)
-    go false true true false true e h k = like-CR c c′ (h refl) (cc)
-    go false true true false false e h k = absurd (let z : _≡_ {A = ℕ} 0 1 = cc in omega arith)
-    go false true false false y e h k = absurd (let z : _≡_ {A = ℕ} 0 1 = cc in omega arith)
-    go false false true x true e h k = like-LF c c′ (k refl) (cc)
-    go false false true x false e h k = absurd (let z : _≡_ {A = ℕ} 0 1 = cc in omega arith)
-    go false false false x y e h k = absurd (let z : _≡_ {A = ℕ} 0 1 = cc in omega arith)
+mores : (q : State) (c : ℕ) (bs : List ℕ) → more q (char-row c bs .kind) ≡ more q c
+mores q = acts-kept (more q) (more-pair q .0) (more-pair q .1)
 
--- One equation for each case of `runs` and `walk`.
+-- One equation for each case of `walk` and of the row of pre-tokens.
 module _ (c b : ℕ) (bs : List ℕ) where
-  pub row-same : (c′ : ℕ) → char-more c b ≡ some c′ → char-row c (b ∷ bs) ≡ put b (char-row c′ bs)
-  unfolding runs
-  row-same c′ e = rw (e, runs)
-
-  pub row-stop : char-more c b ≡ none → char-row c (b ∷ bs) ≡ record { kind = c; text = []; later = list b (char-row b bs) }
-  unfolding runs
-  row-stop e = rw (e, runs)
-
   pub walk-same : (q : State) (c′ : ℕ) → char-more c b ≡ some c′ → walk q c (b ∷ bs) ≡ longer (walk q c′ bs)
   unfolding walk
   walk-same q c′ e = rw (e, walk)
@@ -110,16 +87,6 @@ module _ (q : State) (f : Bool) (d : Run ℕ ℕ) (cs : List (Run ℕ ℕ)) wher
   unfolding runs pre-more pre-begin
   pre-stop-is e = rw (e, runs)
 
--- A character acts as its first byte does.
-like : (c : ℕ) (bs : List ℕ) → Like c (char-row c bs .kind)
-unfolding runs
-like c [] = like-same c
-like c (b ∷ bs) = go (char-more c b) refl (λ p. like p bs)
-  where
-    go : (o : Option ℕ) → char-more c b ≡ o → ((p : ℕ) → Like p (char-row p bs .kind)) → Like c (char-row c (b ∷ bs) .kind)
-    go (some c′) e ih = rw (row-same c b bs c′ e) (like-trans c c′ (char-row c′ bs .kind) (like-more c b c′ e) (ih c′))
-    go none e ih = rw (row-stop c b bs e) (like-same c)
-
 -- The two stages run as one: w is the walk, r and p are the rows of characters and of pre-tokens, t is the row of characters of the walk's bytes alone.
 record Fused (f : Bool) (q : State) (c : ℕ) (bs : List ℕ) (w : Walk) (r : Row ℕ ℕ) (p : Row (Run ℕ ℕ) Pre) (t : Row ℕ ℕ) : Type 0 where
   kind : kind-of (p .kind .at) ≡ w .kind
@@ -132,9 +99,6 @@ record Fused (f : Bool) (q : State) (c : ℕ) (bs : List ℕ) (w : Walk) (r : Ro
 abbrev Fuse : Bool → State → ℕ → List ℕ → Type 0
 Fuse f q c bs = Fused f q c bs (walk q c bs) (char-row c bs) (pre-row q f (char-row c bs .later)) (char-row c (take (walk q c bs .long) bs))
 
-abbrev run-at : (b : ℕ) (bs : List ℕ) → Run ℕ ℕ
-run-at b bs = record { kind = char-row b bs .kind; head = b; tail = char-row b bs .text }
-
 fused : (f : Bool) (q : State) (c : ℕ) (bs : List ℕ) → Fuse f q c bs
 unfolding runs walk joined pre-tokens pres chars grouped pre-begin
 fused f q c [] = record { kind = refl; bytes = refl; later = refl; first = refl; kept = refl; others = refl }
@@ -143,16 +107,16 @@ fused f q c (b ∷ bs) = go (char-more c b) refl (more q b) refl (λ p x. fused 
     go : (o : Option ℕ) → char-more c b ≡ o → (n : Option State) → more q b ≡ n → ((p : State) (x : ℕ) → Fuse f p x bs) → Fuse f q c (b ∷ bs)
     go (some c′) e n e₂ ih =
         let h : Fuse f q c′ bs = ih q c′ in
-        rw (walk-same c b bs q c′ e, row-same c b bs c′ e, row-same c b (take (walk q c′ bs .long) bs) c′ e)
+        rw (walk-same c b bs q c′ e, row-on c b bs c′ e, row-on c b (take (walk q c′ bs .long) bs) c′ e)
         (record { kind = h .kind; bytes = ap (λ l. b ∷ l) (h .bytes); later = h .later; first = ap (λ l. b ∷ l) (h .first); kept = h .kept; others = h .others })
     go none e (some q′) e₂ ih =
         let h : Fuse f q′ b bs = ih q′ b in
-        let m : more q (char-row b bs .kind) ≡ some q′ = like b bs .mores q ∙ e₂ in
-        rw (walk-more c b bs q q′ e e₂, row-stop c b bs e, row-stop c b (take (walk q′ b bs .long) bs) e, pre-more-is q f (run-at b bs) (char-row b bs .later) q′ m)
+        let m : more q (char-row b bs .kind) ≡ some q′ = mores q b bs ∙ e₂ in
+        rw (walk-more c b bs q q′ e e₂, row-off c b bs e, row-off c b (take (walk q′ b bs .long) bs) e, pre-more-is q f (first-char b bs) (char-row b bs .later) q′ m)
         (record { kind = h .kind; bytes = ap (λ l. b ∷ l) (h .bytes); later = h .later; first = refl; kept = refl; others = rw (h .kept, h .first, h .others) })
     go none e none e₂ ih =
-        let m : more q (char-row b bs .kind) ≡ none = like b bs .mores q ∙ e₂ in
-        rw (walk-stop c b bs q e e₂, row-stop c b bs e, pre-stop-is q f (run-at b bs) (char-row b bs .later) m)
+        let m : more q (char-row b bs .kind) ≡ none = mores q b bs ∙ e₂ in
+        rw (walk-stop c b bs q e e₂, row-off c b bs e, pre-stop-is q f (first-char b bs) (char-row b bs .later) m)
         (record { kind = refl; bytes = refl; later = refl; first = refl; kept = refl; others = refl })
 
 pub pre-tokens-cons : (f : Bool) (b : ℕ) (bs : List ℕ)
@@ -160,7 +124,7 @@ pub pre-tokens-cons : (f : Bool) (b : ℕ) (bs : List ℕ)
 unfolding pre-tokens pres chars grouped pre-begin flat pre-kind pre-token named unescaped
 pre-tokens-cons f b bs =
     let h : Fuse (flag f b) (begin f b) b bs = fused (flag f b) (begin f b) b bs in
-    rw (like b bs .begins f, like b bs .flags f, h .kind, h .bytes, h .later, h .kept, h .first, h .others)
+    rw (begins f b bs, flags f b bs, h .kind, h .bytes, h .later, h .kept, h .first, h .others)
 
 pub pre-tokens-nil : (f : Bool) → pre-tokens f [] ≡ []
 unfolding pre-tokens pres chars grouped
@@ -177,3 +141,50 @@ walk-fits q c (b ∷ bs) = go (char-more c b) refl (more q b) refl (λ p x. walk
     go (some c′) e n m ih = rw (walk-same c b bs q c′ e) (let h : walk q c′ bs .long ≤ length bs = ih q c′ in omega arith)
     go none e (some q′) m ih = rw (walk-more c b bs q q′ e m) (let h : walk q′ b bs .long ≤ length bs = ih q′ b in omega arith)
     go none e none m ih = rw (walk-stop c b bs q e m) (omega arith)
+
+-- No byte goes on with the character 0.
+pub zero-none : (b : ℕ) → char-more 0 b ≡ none
+unfolding char-more
+zero-none b = refl
+
+-- The character does not matter where the next byte does not go on with it,
+pub walk-free : (q : State) (c : ℕ) (bs : List ℕ) → ((b : ℕ) (r : List ℕ) → bs ≡ b ∷ r → char-more c b ≡ none) → walk q c bs ≡ walk q 0 bs
+unfolding walk
+walk-free q c [] f = refl
+walk-free q c (b ∷ bs) f = rw (f b bs refl, walk, zero-none b)
+
+-- and behind the whole of it.
+abbrev pub longer-by : ℕ → Walk → Walk
+longer-by n w = record { kind = w .kind; long = n + w .long }
+
+pub walk-behind : (q : State) (c : ℕ) (bs : List ℕ)
+    → walk q c bs ≡ longer-by (length (char-row c bs .text)) (walk q 0 (drop (length (char-row c bs .text)) bs))
+unfolding runs walk
+walk-behind q c [] = refl
+walk-behind q c (b ∷ bs) = go (char-more c b) refl (λ d. walk-behind q d bs)
+  where
+    again : (n : ℕ) (w : Walk) → longer (longer-by n w) ≡ longer-by (suc n) w
+    again n w = ap (λ m. record { kind = w .kind; long = m }) (omega arith)
+
+    go : (o : Option ℕ) → char-more c b ≡ o
+        → ((d : ℕ) → walk q d bs ≡ longer-by (length (char-row d bs .text)) (walk q 0 (drop (length (char-row d bs .text)) bs)))
+        → walk q c (b ∷ bs) ≡ longer-by (length (char-row c (b ∷ bs) .text)) (walk q 0 (drop (length (char-row c (b ∷ bs) .text)) (b ∷ bs)))
+    go (some d) e ih = rw (walk-same c b bs q d e, row-on c b bs d e) (ap longer (ih d) ∙ again (length (char-row d bs .text)) (walk q 0 (drop (length (char-row d bs .text)) bs)))
+    go none e ih =
+        rw (row-off c b bs e)
+        (walk-free q c (b ∷ bs) (λ x r z. let y : b ≡ x = cc in rw (← y) e) ∙ ap (λ m. record { kind = walk q 0 (b ∷ bs) .kind; long = m }) (omega arith))
+
+-- A finished token has its kind, and no more bytes than its last character.
+pub walk-done : (k c : ℕ) (bs : List ℕ) → walk (done k) c bs .kind ≡ k
+unfolding walk more kind-of
+walk-done k c [] = refl
+walk-done k c (b ∷ bs) = go (char-more c b) refl (λ d. walk-done k d bs)
+  where
+    go : (o : Option ℕ) → char-more c b ≡ o → ((d : ℕ) → walk (done k) d bs .kind ≡ k) → walk (done k) c (b ∷ bs) .kind ≡ k
+    go (some d) e ih = rw (e, walk) (ih d)
+    go none e ih = rw (e, walk)
+
+pub walk-alone : (k c : ℕ) (bs : List ℕ) → ((b : ℕ) (r : List ℕ) → bs ≡ b ∷ r → char-more c b ≡ none) → walk (done k) c bs ≡ record { kind = k; long = 0 }
+unfolding walk more kind-of
+walk-alone k c [] f = refl
+walk-alone k c (b ∷ bs) f = rw (f b bs refl, walk)

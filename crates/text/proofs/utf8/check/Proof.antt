@@ -5,7 +5,7 @@ use mathlib.Core.Path.{_≡_, refl, sym, ap, _∙_}
 use mathlib.Core.List.{List, []}
 use lib.ListN.{length, drop, getD}
 use Rattle.definition.specs.Utf8.{left}
-use Rattle.text.specs.Utf8.{wants, wanted, after, told}
+use Rattle.text.specs.Utf8.{wants, wanted, after, told, passes}
 use Rattle.text.specs.declared.utf8.State.{State}
 use Rattle.text.specs.declared.utf8.State.the-variants.{Start}
 use Rattle.text.specs.declared.utf8.Next.{Next}
@@ -13,13 +13,10 @@ use Rattle.text.specs.declared.utf8.Next.the-variants.{To, Unwanted}
 use Rattle.text.specs.declared.utf8.Left.{Left}
 use Rattle.text.specs.declared.utf8.Left.the-variants.{Broken}
 use Rattle.text.proofs.Cases.{cases}
+use Rattle.text.proofs.Ascii.{pass-over}
 use Rattle.text.proofs.Utf8s.{go-on, left-more, left-end}
 use Rattle.text.proofs.utf8.check.Statement.{statement}
 use Rattle.text.proofs.utf8.check.Tie as tie
-use Rattle.text.proofs.utf8.check.Reads as reads
-use Rattle.text.proofs.utf8.check.Lts as lts
-use Rattle.text.proofs.utf8.step.Reads as step-reads
-use Rattle.text.proofs.utf8.end.Reads as end-reads
 
 record Checking (src : List ℕ) (s : State) (i : ℕ) : Type 0 where
   within : i ≤ length src
@@ -34,6 +31,16 @@ module _ (src : List ℕ) (s : State) (i : ℕ) (k : Checking src s i) where
 
   wanted-byte : (n : Next) (t : State) → i < length src → wanted n ≡ after (wants s) (getD src i 0) → n ≡ To t → Checking src t (i + 1)
   wanted-byte n t h e q = record { within = omega arith; rest = further n h e ∙ ap (λ n. go-on (wanted n) (drop (i + 1) src)) q }
+
+  -- Bytes of ASCII are passed over.
+  passed-over : (w : ℕ) → w ≡ passes s src i → 0 < w → Checking src s (i + w)
+  passed-over w e h = let p = pass-over s src i w e h in record { within = p .within; rest = k .rest ∙ p .same }
+
+  over-within : (w : ℕ) → w ≡ passes s src i → 0 < w → i + w ≤ length src
+  over-within w e h = pass-over s src i w e h .within
+
+  over-nearer : (w : ℕ) → w ≡ passes s src i → 0 < w → length src - (i + w) < length src - i
+  over-nearer w e h = omega (arith, over-within w e h)
 
   unwanted-byte : (n : Next) → i < length src → wanted n ≡ after (wants s) (getD src i 0) → n ≡ Unwanted → told Broken ≡ left [] src
   unwanted-byte n h e q = sym (further n h e ∙ ap (λ n. go-on (wanted n) (drop (i + 1) src)) q)
@@ -54,6 +61,10 @@ check-spec =
     Inv-loop
     μ-loop
     (λ c. start _)
+    (λ c κs. search cases)
+    (λ c. search (over-within, cases))
+    (λ c. search (over-nearer, cases))
+    (λ c. search (passed-over, cases))
     (λ c. search cases)
     (λ c κs. search cases)
     (λ c. search cases)

@@ -1,0 +1,23 @@
+#!/usr/bin/env bash
+# Builds the programs `host` and `bench` in target/compare-host: build.sh ORACLE
+#
+# The static library is proved and built first by `rt staticlib shader_reader`; if LIBRARY is set, the file
+# libshader_reader.a that it names is linked instead. The Rust's files are looked for in ORACLE/../docs/src,
+# or in the folder that ORACLE_DOCS names.
+set -eu
+top=$(cd "$(dirname "$0")/.." && pwd)
+[ $# -eq 1 ] && [ -f "$1/Cargo.toml" ] || { echo "usage: build.sh ORACLE, the folder of the oracle" >&2; exit 2; }
+oracle=$(cd "$1" && pwd)
+[ -d "${ORACLE_DOCS:-$oracle/../docs/src}" ] || { echo "no ${ORACLE_DOCS:-$oracle/../docs/src}: set ORACLE_DOCS" >&2; exit 2; }
+
+if [ -n "${LIBRARY:-}" ]; then
+  library=$(cd "$(dirname "$LIBRARY")" && pwd)/$(basename "$LIBRARY")
+else
+  (cd "$top" && rt staticlib shader_reader) >&2
+  library=$top/target/staticlib/libshader_reader.a
+fi
+
+work=$top/target/compare-host
+mkdir -p "$work"
+sed -e "s|@HOST@|$top/compare/host|" -e "s|@ORACLE@|$oracle|" "$top/compare/host/Cargo.toml.in" >"$work/Cargo.toml"
+SHADER_READER_LIBRARY=$library cargo build --offline --release --quiet --manifest-path "$work/Cargo.toml" --target-dir "$work/target"

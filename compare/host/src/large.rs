@@ -1,0 +1,76 @@
+//! Sources at the longest length that is read, and one byte more.
+
+use oracle::{calls::MAX_BYTES, inputs};
+
+pub type Source = Box<dyn FnOnce() -> Vec<u8> + Send>;
+
+/// The pieces again and again, up to that many bytes
+fn repeated(pieces: &[u8], bytes: usize) -> Vec<u8> {
+    pieces.iter().copied().cycle().take(bytes).collect()
+}
+
+/// That many bytes: a beginning, one piece again and again, and an end
+fn between(begin: &[u8], piece: &[u8], end: &[u8], bytes: usize) -> Vec<u8> {
+    let mut source = begin.to_vec();
+    source.extend(repeated(piece, bytes - begin.len() - end.len()));
+    source.extend(end);
+    source
+}
+
+/// A source such as people write, of that many bytes, with a long comment now and then
+fn written(bytes: usize) -> Vec<u8> {
+    let mut source = inputs::Random(3).large(bytes);
+    for place in (0..bytes).step_by(1 << 20) {
+        let comment = between(b"/*", "so \u{e9}t\u{e9} \n * ".as_bytes(), b"*/\n", 100_003);
+        source.splice(place..place, comment);
+    }
+    source.truncate(bytes);
+    while std::str::from_utf8(&source).is_err() {
+        let last = source.len() - 1;
+        source.truncate(last);
+    }
+    source.resize(bytes, b'\n');
+    source
+}
+
+/// Sources to compare, made when they are needed
+pub fn sources(quick: bool) -> Vec<Source> {
+    const N: usize = MAX_BYTES;
+    let mut sources: Vec<Source> = vec![
+        Box::new(|| written(N)),
+        Box::new(|| written(N + 1)),
+        Box::new(|| repeated(b"\n", N)),
+        Box::new(|| repeated(b"\n", N + 1)),
+        // Of both refusals the first is given
+        Box::new(|| repeated(b"\xff", N + 1)),
+        Box::new(|| between(b"", b" ", b"\xc3", N)),
+    ];
+    if quick {
+        return sources;
+    }
+    for piece in [
+        "a", "1", "1e+", " ", "\\\n", "\\\r\n", "\r\n", "\n\r", "a\\\n", "1\\\n", "+", "+\\\n", "<", "#", ".", ".5",
+        "\"a\" ", "/**/", "//\n", "/***/", "\\", "\0", "a \n", "defined ", "\u{1f600}",
+    ] {
+        sources.push(Box::new(move || repeated(piece.as_bytes(), N)));
+    }
+    for (begin, piece, end) in [
+        ("/*", "a\n", "*/"),
+        ("/*", "*", ""),
+        ("/*", "\u{e9}", "*/"),
+        ("//", "a", ""),
+        ("//", "\\\n", "\n"),
+        ("\"", "a\n", "\""),
+        ("\"", "a", ""),
+        ("#include <", "a\n", ">"),
+        ("a", "\\\n", "b"),
+    ] {
+        sources.push(Box::new(move || between(begin.as_bytes(), piece.as_bytes(), end.as_bytes(), N)));
+    }
+    // Wrong at the first byte, in the middle and at the last
+    sources.push(Box::new(|| between(b"\x80", b"a", b"", N)));
+    sources.push(Box::new(|| between(&repeated(b"a", N / 2), b"\xed\xa0\x80", b"", N)));
+    sources.push(Box::new(|| between(b"", b"a\n", b"\xf0\x9f\x98", N)));
+    sources.push(Box::new(|| repeated(b"a", N - 1)));
+    sources
+}

@@ -1,0 +1,35 @@
+/* The exports of libshader_reader.a, which `rt staticlib shader_reader` writes to target/staticlib.
+ *
+ * Every call answers on whatever it is given. A refusal of 0 means that the call was accepted; a refused call
+ * has a count of 0. Every number of a lent table is written: the answer, and zeros behind it; on a refusal, zeros.
+ * Pointers must not be null, even where the length is 0, and no table may overlap an input.
+ */
+#ifndef SHADER_READER_H
+#define SHADER_READER_H
+
+#include <stddef.h>
+#include <stdint.h>
+
+typedef struct { uint32_t refusal, count; } shader_counted;
+typedef struct { uint32_t refusal, line, column; } shader_place;
+typedef struct { uint32_t refusal, kind; } shader_pasted;
+
+/* Kind, start and end of each token; a table of 3 * bytes numbers is always long enough. The count is of tokens.
+ * Refusals: 1 more than 16,777,216 bytes, 2 not UTF-8, 4 the table is too short. */
+shader_counted shader_tokens(const uint8_t *src, size_t bytes, uint32_t *tokens, size_t room);
+
+/* The offset where each line starts; bytes + 1 numbers are always enough. Refusals: 1, 2, 6 the table is too short. */
+shader_counted shader_line_table(const uint8_t *src, size_t bytes, uint32_t *lines, size_t room);
+
+/* The text without its continuations; as many bytes as the text has are always enough. Refusals: 1, 2, 8 the output
+ * is too short. */
+shader_counted shader_unescape(const uint8_t *text, size_t bytes, uint8_t *output, size_t room);
+
+/* Line and column of an offset, from 0, given the counted line starts alone. Refusal 7: they do not start at 0, or
+ * do not rise. */
+shader_place shader_lookup(const uint32_t *lines, size_t count, uint32_t offset);
+
+/* The kind of two tokens pasted. Refusal 9: a kind is 0, 35 or above 86. */
+shader_pasted shader_paste(uint32_t lhs, uint32_t rhs);
+
+#endif

@@ -1,0 +1,4 @@
+pub mod Begins
+pub mod Peeks
+pub mod Periods
+pub mod Steps

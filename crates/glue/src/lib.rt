@@ -1,0 +1,169 @@
+// The glue lexer: operators of several characters (`glue.rs`).
+pub mod operators;
+
+use crate::operators::glue;
+use pre::PreLexer;
+use pre::class::Class;
+use syntax_kind::kind::Kind;
+ghost use mathlib.Core.Path.{_≡_};
+ghost use mathlib.Core.Bool.{false, _&&_};
+ghost use lib.Dec.{eqb};
+ghost use Rattle.definition.specs.Text.{byte};
+ghost use Rattle.definition.specs.SyntaxKind.{Kind as SyntaxKind};
+ghost use Rattle.theorems.specs.Step.{Gluing, Stepped};
+ghost use Rattle.pre.specs.Table.{class-table};
+ghost use Rattle.glue.specs.Next.{Nexts, Operator, peeked};
+
+// Where the lexer stands, and whether `<` opens a string.
+pub struct Lexer {
+    pub input: PreLexer,
+}
+
+// The kind of a token, and the state behind it, where the token ends. At the end of the source the kind is 0.
+pub struct Step {
+    pub kind: u8,
+    pub next: Lexer,
+}
+
+// Whether b opens an angle string.
+fn opens_string(b: u8, angle: bool) -> bool
+    ensures { λ r. ⌜ r ≡ (angle && eqb b (byte "<")) ⌝ }
+{
+    if angle {
+        return b == b'<';
+    }
+    false
+}
+
+// The kind of an operator together with a token that begins with b, 0 where they do not glue.
+fn peek(table: &[u8; 256], kind: u8, b: u8, angle: bool) -> u8
+    requires { ⌜ now table ≡ class-table ⌝ }
+    ensures { λ r. ⌜ r ≡ peeked kind b angle ⌝ }
+{
+    if opens_string(b, angle) {
+        return 0;
+    }
+    glue(kind, pre::class::class_of(table, b))
+}
+
+// The operator of kind `kind` that starts at `start` and has been read up to `at`, with what glues to it.
+fn operator(
+    src: &[u8],
+    table: &[u8; 256],
+    start: usize,
+    flag: bool,
+    kind: u8,
+    at: usize,
+    angle: bool,
+) -> Step
+    requires { ⌜ (now table ≡ class-table) × (Operator (now src) start flag kind at angle) ⌝ }
+    ensures { λ r. ⌜ Stepped (now (src .entry)) start flag (r .kind) (r .next .input .at) (r .next .input .angle) ⌝ }
+{
+    let mut k = kind;
+    let mut e = at;
+    while e < src.len() {
+        let j = peek(table, k, src[e], angle);
+        if j == 0 {
+            return Step {
+                kind: k,
+                next: Lexer {
+                    input: PreLexer { at: e, angle },
+                },
+            };
+        }
+        k = j;
+        e += 1;
+    }
+    Step {
+        kind: k,
+        next: Lexer {
+            input: PreLexer { at: e, angle },
+        },
+    }
+}
+
+// A PERIOD that starts at `start` and ends at `at`, with the number behind it.
+fn period(src: &[u8], table: &[u8; 256], start: usize, flag: bool, at: usize, angle: bool) -> Step
+    requires { ⌜ (now table ≡ class-table) × (Gluing (now src) start flag SyntaxKind.PERIOD at angle) ⌝ }
+    ensures { λ r. ⌜ Stepped (now (src .entry)) start flag (r .kind) (r .next .input .at) (r .next .input .angle) ⌝ }
+{
+    if src.len() <= at {
+        return Step {
+            kind: Kind::PERIOD,
+            next: Lexer {
+                input: PreLexer { at, angle },
+            },
+        };
+    }
+    if pre::class::class_of(table, src[at]) == Class::DIGIT {
+        let u = pre::digits::digits(src, table, at + 1);
+        if u.kind == Kind::DIGITS {
+            return Step {
+                kind: Kind::DIGITS,
+                next: Lexer {
+                    input: PreLexer { at: u.end, angle },
+                },
+            };
+        }
+        return Step {
+            kind: Kind::PERIOD,
+            next: Lexer {
+                input: PreLexer { at, angle },
+            },
+        };
+    }
+    Step {
+        kind: Kind::PERIOD,
+        next: Lexer {
+            input: PreLexer { at, angle },
+        },
+    }
+}
+
+impl Lexer {
+    pub fn new() -> Self
+        ensures { λ r. ⌜ (r .input .at ≡ 0) × (r .input .angle ≡ false) ⌝ }
+    {
+        let input = PreLexer::new();
+        Self { input }
+    }
+
+    // The same place, with `<` expected to open a string, or not.
+    pub fn set_expect_angle_string(self, angle: bool) -> Self
+        ensures { λ r. ⌜ (r .input .at ≡ self .input .at) × (r .input .angle ≡ angle) ⌝ }
+    {
+        let p = self.input;
+        Self {
+            input: PreLexer { at: p.at, angle },
+        }
+    }
+
+    // The token where the lexer stands, and the state behind it.
+    pub fn next(self, src: &[u8], table: &[u8; 256]) -> Step
+        requires { ⌜ now table ≡ class-table ⌝ }
+        ensures { λ r. ⌜ Nexts (now (src .entry)) self r ⌝ }
+    {
+        let p = self.input;
+        let at = p.at;
+        let angle = p.angle;
+        if src.len() <= at {
+            return Step {
+                kind: 0,
+                next: Lexer { input: p },
+            };
+        }
+        let t = p.next(src, table);
+        let k = t.kind;
+        let n = t.next;
+        if operators::settles(k) {
+            return Step {
+                kind: k,
+                next: Lexer { input: n },
+            };
+        }
+        if k == Kind::PERIOD {
+            return period(src, table, at, angle, n.at, n.angle);
+        }
+        operator(src, table, at, angle, k, n.at, n.angle)
+    }
+}

@@ -1,0 +1,166 @@
+-- What the entry of a byte in the table of classes says of it.
+use Prim.Native.Nat.{ℕ, _≤_, _<_}
+use mathlib.Core.Path.{_≡_, refl, _∙_}
+use mathlib.Core.Bool.{Bool, true, false, _&&_, _||_, not, false≢true, and-eq-true-iff}
+use mathlib.Core.Option.{none}
+use native.Mathlib.Omega.{arith}
+use lib.Dec.{eqb, leb, ltb}
+use borrow.Author.Tests.{ne-eqb, eqb-true, eqb-false, lt-leb, leb-true, ltb-true, not-true}
+use Rattle.definition.specs.Text.{among, byte}
+use Rattle.definition.specs.SyntaxKind.{Kind}
+use Rattle.definition.specs.Newline.{LF, CR, CRLF, char-more, letter, digit, newline, blank, class}
+use Rattle.definition.specs.Pre.{puncts}
+use Rattle.theorems.proofs.Lexing.Sorts.{find-low}
+use Rattle.pre.specs.Table.{Entry, punct, entry, entry-of}
+
+pub is-false : (t : Bool) → (t ≡ true → ⊥) → t ≡ false
+is-false true h = absurd (h refl)
+is-false false h = refl
+
+-- A character that no byte goes on with.
+pub record Closed (c : ℕ) : Type 0 where
+  pub none-after : (b : ℕ) → char-more c b ≡ none
+
+-- It is below 192, and no newline; 256 is the two newline characters as one.
+abbrev pub closed : ℕ → Bool
+closed c = ltb c 192 && not (eqb c LF) && not (eqb c CR)
+
+pub closed-by : (c : ℕ) → c < 192 → (c ≡ LF → ⊥) → (c ≡ CR → ⊥) → Closed c
+unfolding char-more
+closed-by c h n m = record { none-after = λ b. rw (lt-leb 192 c h, ne-eqb c LF n, ne-eqb c CR m) }
+
+pub closed-is : (c n : ℕ) → c ≡ n → closed n ≡ true → Closed c
+closed-is c n e h =
+    let x : (ltb n 192 && not (eqb n LF)) ≡ true = and-eq-true-iff (ltb n 192 && not (eqb n LF)) (not (eqb n CR)) .0 h .0 in
+    let y : eqb n CR ≡ false = not-true _ (and-eq-true-iff (ltb n 192 && not (eqb n LF)) (not (eqb n CR)) .0 h .1) in
+    let z : eqb n LF ≡ false = not-true _ (and-eq-true-iff (ltb n 192) (not (eqb n LF)) .0 x .1) in
+    rw e (closed-by n (ltb-true n 192 (and-eq-true-iff (ltb n 192) (not (eqb n LF)) .0 x .0)) (eqb-false n LF z) (eqb-false n CR y))
+
+pub closed-pair : Closed CRLF
+unfolding char-more
+closed-pair = record { none-after = λ b. refl }
+
+-- A byte of a range.
+pub record Within (low high n : ℕ) : Type 0 where
+  pub from-low : low ≤ n
+  pub to-high : n ≤ high
+
+pub within : (low high n : ℕ) → among low high n ≡ true → Within low high n
+within low high n e =
+    let h : (leb low n ≡ true) × (leb n high ≡ true) = and-eq-true-iff (leb low n) (leb n high) .0 e in
+    record { from-low = leb-true low n (h .0); to-high = leb-true n high (h .1) }
+
+pub letter-within : (b : ℕ) → letter b ≡ true → Within (byte "A") (byte "z") b
+letter-within b e = go (among (byte "A") (byte "Z") b) (among (byte "a") (byte "z") b) refl refl e
+  where
+    go : (x y : Bool) → among (byte "A") (byte "Z") b ≡ x → among (byte "a") (byte "z") b ≡ y → (x || y) ≡ true → Within (byte "A") (byte "z") b
+    go true y p q h = let w : Within (byte "A") (byte "Z") b = within (byte "A") (byte "Z") b p in record { from-low = w .from-low; to-high = omega arith }
+    go false true p q h = let w : Within (byte "a") (byte "z") b = within (byte "a") (byte "z") b q in record { from-low = omega arith; to-high = w .to-high }
+    go false false p q h = absurd (false≢true h)
+
+pub digit-within : (b : ℕ) → digit b ≡ true → Within (byte "0") (byte "9") b
+digit-within b e = within (byte "0") (byte "9") b e
+
+pub letter-no-digit : (b : ℕ) → letter b ≡ true → digit b ≡ false
+letter-no-digit b e = is-false (digit b) (λ p.
+    let w : Within (byte "A") (byte "z") b = letter-within b e in let v : Within (byte "0") (byte "9") b = digit-within b p in omega arith)
+
+-- One of three numbers.
+pub data One-of (b x y z : ℕ) : Type 0 where
+  is-1 : b ≡ x → One-of b x y z
+  is-2 : b ≡ y → One-of b x y z
+  is-3 : b ≡ z → One-of b x y z
+
+one-of : (b x y z : ℕ) → (eqb b x || eqb b y || eqb b z) ≡ true → One-of b x y z
+one-of b x y z h = go (eqb b x) (eqb b y) (eqb b z) refl refl refl h
+  where
+    go : (t u v : Bool) → eqb b x ≡ t → eqb b y ≡ u → eqb b z ≡ v → (t || u || v) ≡ true → One-of b x y z
+    go true u v e f g h = is-1 (eqb-true b x e)
+    go false true v e f g h = is-2 (eqb-true b y f)
+    go false false true e f g h = is-3 (eqb-true b z g)
+    go false false false e f g h = absurd (false≢true h)
+
+pub newline-of : (b : ℕ) → newline b ≡ true → One-of b LF CR CRLF
+newline-of b e = one-of b LF CR CRLF e
+
+pub blank-of : (b : ℕ) → blank b ≡ true → One-of b (byte "\t") 12 (byte " ")
+blank-of b e = one-of b (byte "\t") 12 (byte " ") e
+
+-- The entries of punctuation lie above the others.
+pub punct-low : (b : ℕ) → Kind.PERIOD ≤ punct b
+unfolding punct
+punct-low b = find-low b puncts Kind.PERIOD (omega arith)
+
+-- What an entry says.
+pub record Says (b k : ℕ) : Type 0 where
+  pub letter-is : k ≡ Entry.LETTER → letter b ≡ true
+  pub low-is : k < Entry.NEWLINE → (letter b || digit b) ≡ true
+  pub digit-is : k ≡ Entry.DIGIT → digit b ≡ true
+  pub newline-is : k ≡ Entry.NEWLINE → newline b ≡ true
+  pub blank-is : k ≡ Entry.WS → blank b ≡ true
+  pub no-letter : (k ≡ Entry.LETTER → ⊥) → letter b ≡ false
+  pub no-digit : Entry.NEWLINE ≤ k → digit b ≡ false
+  pub punct-is : Kind.PERIOD ≤ k → k ≡ punct b
+
+pub says : (b k : ℕ) → k ≡ entry b → Says b k
+unfolding entry entry-of class
+says b k e = go (letter b) (digit b) (newline b) (blank b) refl refl refl refl (punct-low b)
+  where
+    go : (l d n w : Bool) → letter b ≡ l → digit b ≡ d → newline b ≡ n → blank b ≡ w → Kind.PERIOD ≤ punct b → Says b k
+    go true d n w p q r t u =
+        let z : k ≡ Entry.LETTER = e ∙ rw p in
+        record { letter-is = λ h. p; low-is = λ h. rw p; digit-is = λ h. absurd (omega arith); newline-is = λ h. absurd (omega arith); blank-is = λ h. absurd (omega arith); no-letter = λ h. absurd (h z); no-digit = λ h. absurd (omega arith); punct-is = λ h. absurd (omega arith) }
+    go false true n w p q r t u =
+        let z : k ≡ Entry.DIGIT = e ∙ rw (p, q) in
+        record { letter-is = λ h. absurd (omega arith); low-is = λ h. rw (p, q); digit-is = λ h. q; newline-is = λ h. absurd (omega arith); blank-is = λ h. absurd (omega arith); no-letter = λ h. p; no-digit = λ h. absurd (omega arith); punct-is = λ h. absurd (omega arith) }
+    go false false true w p q r t u =
+        let z : k ≡ Entry.NEWLINE = e ∙ rw (p, q, r) in
+        record { letter-is = λ h. absurd (omega arith); low-is = λ h. absurd (omega arith); digit-is = λ h. absurd (omega arith); newline-is = λ h. r; blank-is = λ h. absurd (omega arith); no-letter = λ h. p; no-digit = λ h. q; punct-is = λ h. absurd (omega arith) }
+    go false false false true p q r t u =
+        let z : k ≡ Entry.WS = e ∙ rw (p, q, r, t) in
+        record { letter-is = λ h. absurd (omega arith); low-is = λ h. absurd (omega arith); digit-is = λ h. absurd (omega arith); newline-is = λ h. absurd (omega arith); blank-is = λ h. t; no-letter = λ h. p; no-digit = λ h. q; punct-is = λ h. absurd (omega arith) }
+    go false false false false p q r t u =
+        let z : k ≡ punct b = e ∙ rw (p, q, r, t) in
+        record { letter-is = λ h. absurd (omega arith); low-is = λ h. absurd (omega arith); digit-is = λ h. absurd (omega arith); newline-is = λ h. absurd (omega arith); blank-is = λ h. absurd (omega arith); no-letter = λ h. p; no-digit = λ h. q; punct-is = λ h. z }
+
+module _ (b k : ℕ) (e : k ≡ entry b) where
+  pub no-newline : (k ≡ Entry.NEWLINE → ⊥) → newline b ≡ false
+  unfolding entry entry-of class
+  no-newline h = is-false (newline b) (λ p. h (e ∙ go (newline-of b p)))
+    where
+      go : One-of b LF CR CRLF → entry b ≡ Entry.NEWLINE
+      go (is-1 z) = rw z
+      go (is-2 z) = rw z
+      go (is-3 z) = rw z
+
+  pub no-blank : (k ≡ Entry.WS → ⊥) → blank b ≡ false
+  unfolding entry entry-of class
+  no-blank h = is-false (blank b) (λ p. h (e ∙ go (blank-of b p)))
+    where
+      go : One-of b (byte "\t") 12 (byte " ") → entry b ≡ Entry.WS
+      go (is-1 z) = rw z
+      go (is-2 z) = rw z
+      go (is-3 z) = rw z
+
+  -- Letters, digits, blanks and ASCII punctuation are characters of one byte.
+  pub closed-word : k < Entry.NEWLINE → Closed b
+  closed-word h = go (letter b) (digit b) refl refl (says b k e .low-is h)
+    where
+      go : (l d : Bool) → letter b ≡ l → digit b ≡ d → (l || d) ≡ true → Closed b
+      go true d p q r = let w : Within (byte "A") (byte "z") b = letter-within b p in closed-by b (omega arith) (λ z. omega arith) (λ z. omega arith)
+      go false true p q r = let w : Within (byte "0") (byte "9") b = digit-within b q in closed-by b (omega arith) (λ z. omega arith) (λ z. omega arith)
+      go false false p q r = absurd (false≢true r)
+
+  pub closed-blank : k ≡ Entry.WS → Closed b
+  closed-blank h = go (blank-of b (says b k e .blank-is h))
+    where
+      go : One-of b (byte "\t") 12 (byte " ") → Closed b
+      go (is-1 z) = closed-is b _ z refl
+      go (is-2 z) = closed-is b _ z refl
+      go (is-3 z) = closed-is b _ z refl
+
+  pub closed-punct : Kind.PERIOD ≤ k → b < 192 → Closed b
+  unfolding entry entry-of class
+  closed-punct h l = closed-by b l
+      (λ z. let y : k ≡ Entry.NEWLINE = e ∙ rw z in omega arith)
+      (λ z. let y : k ≡ Entry.NEWLINE = e ∙ rw z in omega arith)

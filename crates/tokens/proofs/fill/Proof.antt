@@ -1,0 +1,32 @@
+-- `fill` writes the numbers of the tokens as far as the table goes, and counts them.
+use Prim.Native.Nat.{_-_}
+use native.Mathlib.Omega.{arith}
+use lib.ListN.{length}
+use Rattle.text.proofs.Cases.{cases}
+use Rattle.tokens.proofs.Listing.{Listing, start, offset-fits, nearer, another, kept, done}
+use Rattle.tokens.proofs.fill.Statement.{statement}
+use Rattle.tokens.proofs.fill.Tie as tie
+
+abbrev Inv-loop : tie.InvT-loop
+Inv-loop src t₀ classes lexer₀ at₀ n₀ t lexer at n = Listing src t₀ t lexer at n
+
+abbrev μ-loop : tie.MeasureT-loop
+μ-loop src t₀ classes lexer₀ at₀ n₀ t lexer at n = length src - at
+
+pub fill-spec : {M : Type 1} → statement M
+fill-spec = tie.close (tie.spec
+    Inv-loop
+    μ-loop
+    (λ c κs. search cases)
+    (λ c κs. search cases)
+    (λ c. search (start, cases))
+    (λ c κs. search cases)
+    (λ c κs. search cases)
+    (λ c. search cases)
+    (λ c. search (offset-fits, cases))
+    (λ c κs. search cases)
+    (λ c. search cases)
+    (λ c. search (nearer, cases))
+    (λ c. search (another, cases))
+    (λ c. search (kept, cases))
+    (λ c. search (done, cases)))

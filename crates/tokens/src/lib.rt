@@ -1,0 +1,94 @@
+// The listing of glued tokens: kind, start and end of each, angle strings never expected.
+use glue::Lexer;
+use pre::PreLexer;
+use pre::class;
+use text::Counted;
+use text::refusal;
+use text::source;
+use text::table;
+ghost use mathlib.Core.Path.{_≡_};
+ghost use mathlib.Core.Bool.{false};
+ghost use mathlib.Core.List.{[], _∷_};
+ghost use Prim.Native.Nat.{_≤_};
+ghost use lib.ListN.{length};
+ghost use lib.Seq.{sets};
+ghost use Rattle.definition.specs.Glue.{tokens, token-numbers};
+ghost use Rattle.definition.specs.Calls.{longest-source, listing-tokens};
+ghost use Rattle.text.specs.Fills.{Fills, Written};
+
+// How many numbers a token has.
+const WIDTH: usize = 3;
+
+// A kind as a number of a table.
+fn wide(kind: u8) -> u32
+    ensures { λ r. ⌜ r ≡ kind ⌝ }
+{
+    kind as u32
+}
+
+// Puts a token at place n, as far as the table goes.
+fn put_token(t: &mut [u32], n: usize, kind: u32, start: u32, end: u32)
+    ensures { λ _. ⌜ now (t .exit) ≡ sets (now (t .entry)) n (kind ∷ start ∷ end ∷ []) ⌝ }
+{
+    if n < t.len() {
+        let room = t.len() - n;
+        t[n] = kind;
+        if 1 < room {
+            t[n + 1] = start;
+            if 2 < room {
+                t[n + 2] = end;
+            }
+        }
+    }
+}
+
+// Writes the numbers of the tokens into a table, as far as it goes, and counts them all.
+fn fill(src: &[u8], t: &mut [u32]) -> usize
+    requires { ⌜ length (now src) ≤ longest-source ⌝ }
+    ensures { λ r. ⌜ Written (token-numbers 0 (tokens false (now (src .entry)))) (now (t .entry)) r (now (t .exit)) ⌝ }
+{
+    let classes = class::class_table();
+    let mut lexer = Lexer::new();
+    let mut at: usize = 0;
+    let mut n: usize = 0;
+    while at < src.len() {
+        let step = lexer.next(src, &classes);
+        let next = step.next;
+        let input = next.input;
+        let end = input.at;
+        let angle = input.angle;
+        put_token(t, n, wide(step.kind), at as u32, end as u32);
+        lexer = Lexer {
+            input: PreLexer { at: end, angle },
+        };
+        n += WIDTH;
+        at = end;
+    }
+    n
+}
+
+// The tokens of a source.
+pub fn list(src: &[u8], tokens: &mut [u32]) -> Counted
+    ensures { λ r. ⌜ Fills (listing-tokens (now (src .entry)) (length (now (tokens .entry)))) r (now (tokens .exit)) ⌝ }
+{
+    table::clear(tokens);
+    let refused = source::refused(src);
+    if refused != refusal::NONE {
+        return Counted {
+            refusal: refused,
+            count: 0,
+        };
+    }
+    let n = fill(src, tokens);
+    if tokens.len() < n {
+        table::clear(tokens);
+        return Counted {
+            refusal: refusal::SHORT_ENTRIES,
+            count: 0,
+        };
+    }
+    Counted {
+        refusal: refusal::NONE,
+        count: (n / WIDTH) as u32,
+    }
+}
