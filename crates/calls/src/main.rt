@@ -7,12 +7,15 @@ ghost use Prim.Native.Nat.{_+_, _≤_};
 ghost use mathlib.Core.Path.{_≡_};
 ghost use Rattle.records.specs.Rubbish.{most};
 
-// Shows the calls on a source, which has so many lines, and bytes once unescaped. It answers how many sources it showed.
-fn source(src: &[u8], lines: usize, bytes: usize) -> usize
+// Shows the calls on a source, which has so many numbers of tokens, so many lines, and so many bytes once unescaped. It answers
+// how many sources it showed.
+fn source(src: &[u8], tokens: usize, lines: usize, bytes: usize) -> usize
+    requires { ⌜ tokens + 2 ≤ most ⌝ }
     requires { ⌜ lines + 2 ≤ most ⌝ }
     requires { ⌜ bytes + 2 ≤ most ⌝ }
     ensures { λ r. ⌜ r ≡ 1 ⌝ }
 {
+    show::tokens(src, tokens);
     show::lines(src, lines);
     show::unescape(src, bytes);
     1
@@ -22,48 +25,48 @@ fn source(src: &[u8], lines: usize, bytes: usize) -> usize
 fn worked() -> usize
     ensures { λ r. ⌜ r ≡ 7 ⌝ }
 {
-    source(b"", 1, 0)
-        + source(b"#", 1, 1)
-        + source(b"#\n", 2, 2)
-        + source(b"#undef\nfoo\n", 3, 11)
-        + source(b"#(a)\n", 2, 5)
-        + source(b"/***/", 1, 5)
-        + source(b"1.2.3", 1, 5)
+    source(b"", 0, 1, 0)
+        + source(b"#", 3, 1, 1)
+        + source(b"#\n", 6, 2, 2)
+        + source(b"#undef\nfoo\n", 15, 3, 11)
+        + source(b"#(a)\n", 15, 2, 5)
+        + source(b"/***/", 3, 1, 5)
+        + source(b"1.2.3", 6, 1, 5)
 }
 
 fn worked_too() -> usize
     ensures { λ r. ⌜ r ≡ 6 ⌝ }
 {
-    source(b"abc\\d", 1, 5)
-        + source(b"\n\r\n", 3, 3)
-        + source(b"<<<", 1, 3)
-        + source(b"#define F(a,) a\n", 2, 16)
-        + source(b"#version\ncore\n", 3, 14)
-        + source(b"#a", 1, 2)
+    source(b"abc\\d", 6, 1, 5)
+        + source(b"\n\r\n", 6, 3, 3)
+        + source(b"<<<", 6, 1, 3)
+        + source(b"#define F(a,) a\n", 33, 2, 16)
+        + source(b"#version\ncore\n", 15, 3, 14)
+        + source(b"#a", 6, 1, 2)
 }
 
 // Newlines in comments, and behind a backslash.
 fn newlines() -> usize
     ensures { λ r. ⌜ r ≡ 6 ⌝ }
 {
-    source(b"/*\n\r*/\r\n", 3, 8)
-        + source(b"a\\\r\nb", 2, 2)
-        + source(b"de\\\nfined", 2, 7)
-        + source(b"\\\\\n", 2, 1)
-        + source(b"//\\\na", 2, 3)
-        + source(b"\\\n\r\n", 3, 1)
+    source(b"/*\n\r*/\r\n", 6, 3, 8)
+        + source(b"a\\\r\nb", 3, 2, 2)
+        + source(b"de\\\nfined", 3, 2, 7)
+        + source(b"\\\\\n", 6, 2, 1)
+        + source(b"//\\\na", 3, 2, 3)
+        + source(b"\\\n\r\n", 6, 3, 1)
 }
 
 // Refusal 2: cut off, a surrogate, overlong, above the last character; and two characters that are none of these.
 fn not_utf8() -> usize
     ensures { λ r. ⌜ r ≡ 6 ⌝ }
 {
-    source(b"a\n\xe2\x82", 0, 0)
-        + source(b"\xed\xa0\x80", 0, 0)
-        + source(b"\xc0\x80", 0, 0)
-        + source(b"\xf4\x90\x80\x80", 0, 0)
-        + source(b"\xff", 0, 0)
-        + source(b"\xed\x9f\xbf\xf4\x8f\xbf\xbf", 1, 7)
+    source(b"a\n\xe2\x82", 0, 0, 0)
+        + source(b"\xed\xa0\x80", 0, 0, 0)
+        + source(b"\xc0\x80", 0, 0, 0)
+        + source(b"\xf4\x90\x80\x80", 0, 0, 0)
+        + source(b"\xff", 0, 0, 0)
+        + source(b"\xed\x9f\xbf\xf4\x8f\xbf\xbf", 6, 1, 7)
 }
 
 // Shows a lookup, and answers how many it showed.

@@ -6,14 +6,46 @@ use syntax_kind::paste::Pasted;
 use text::Counted;
 ghost use Prim.Native.Nat.{_+_, _≤_};
 ghost use lib.ListN.{length};
-ghost use Rattle.definition.specs.Calls.{building-lines, unescaping, looking-up, pasting};
+ghost use Rattle.definition.specs.Calls.{listing-tokens, building-lines, unescaping, looking-up, pasting};
 ghost use Rattle.text.specs.Fills.{Fills};
 ghost use Rattle.line_map.specs.Lookup.{Looks-up};
 ghost use Rattle.syntax_kind.specs.Pastes.{Pastes};
 ghost use Rattle.records.specs.Rubbish.{most};
 ghost use Rattle.calls.specs.Answers.{Answers};
 
-// Building a line table,
+// Listing tokens,
+fn tokens_into(src: &[u8], table: &mut [u32]) -> Counted
+    ensures { λ r. ⌜ Fills (listing-tokens (now (src .entry)) (length (now (table .entry)))) r (now (table .exit)) ⌝ }
+{
+    print::bytes(b"tokens", src);
+    let got = shader_reader::shader_tokens(src, table);
+    print::numbers(b"answer", &[got.refusal, got.count]);
+    print::numbers(b"table", table);
+    got
+}
+
+// with a table of that length,
+fn tokens_at(src: &[u8], room: usize) -> Counted
+    requires { ⌜ room ≤ most ⌝ }
+    ensures { λ r. ⌜ Answers (listing-tokens (now (src .entry)) room) r ⌝ }
+{
+    let mut table = rubbish::numbers();
+    tokens_into(src, &mut table[..room])
+}
+
+// one number too short, two too long, and exact; the answer is that of the last.
+pub fn tokens(src: &[u8], need: usize) -> Counted
+    requires { ⌜ need + 2 ≤ most ⌝ }
+    ensures { λ r. ⌜ Answers (listing-tokens (now (src .entry)) need) r ⌝ }
+{
+    if 0 < need {
+        tokens_at(src, need - 1);
+    }
+    tokens_at(src, need + 2);
+    tokens_at(src, need)
+}
+
+// Building a line table, in the same way.
 fn lines_into(src: &[u8], table: &mut [u32]) -> Counted
     ensures { λ r. ⌜ Fills (building-lines (now (src .entry)) (length (now (table .entry)))) r (now (table .exit)) ⌝ }
 {
@@ -24,7 +56,6 @@ fn lines_into(src: &[u8], table: &mut [u32]) -> Counted
     got
 }
 
-// with a table of that length,
 fn lines_at(src: &[u8], room: usize) -> Counted
     requires { ⌜ room ≤ most ⌝ }
     ensures { λ r. ⌜ Answers (building-lines (now (src .entry)) room) r ⌝ }
@@ -33,7 +64,6 @@ fn lines_at(src: &[u8], room: usize) -> Counted
     lines_into(src, &mut table[..room])
 }
 
-// one number too short, two too long, and exact; the answer is that of the last.
 pub fn lines(src: &[u8], need: usize) -> Counted
     requires { ⌜ need + 2 ≤ most ⌝ }
     ensures { λ r. ⌜ Answers (building-lines (now (src .entry)) need) r ⌝ }
@@ -45,7 +75,7 @@ pub fn lines(src: &[u8], need: usize) -> Counted
     lines_at(src, need)
 }
 
-// Unescaping, in the same way.
+// Unescaping.
 fn unescape_into(src: &[u8], output: &mut [u8]) -> Counted
     ensures { λ r. ⌜ Fills (unescaping (now (src .entry)) (length (now (output .entry)))) r (now (output .exit)) ⌝ }
 {

@@ -1,6 +1,6 @@
 -- When a recorded answer is the definition's.
 use Rattle.definition.specs.Text.{ℕ, _-_, Bool, true, false, _&&_, List, [], _∷_, eqb, leb, length, same, if_then_else_}
-use Rattle.definition.specs.Calls.{Filled, building-lines, unescaping, Looked, looking-up, Pasted, pasting}
+use Rattle.definition.specs.Calls.{Filled, listing-tokens, building-lines, unescaping, Looked, looking-up, Pasted, pasting}
 use Rattle.records.specs.Numbers.{numbers}
 use Rattle.records.specs.Rubbish.{most}
 
@@ -36,7 +36,7 @@ paste-agrees (lhs ∷ rhs ∷ more) answer = same (pasted-numbers (pasting lhs r
 -- A call by its number; the input is known as bytes and as numbers.
 abbrev pub call-agrees : ℕ → List ℕ → List ℕ → List ℕ → Bool
 call-agrees call input given answer =
-    if eqb call Call.TOKENS then true else
+    if eqb call Call.TOKENS then source-agrees listing-tokens input answer else
     if eqb call Call.LINES then source-agrees building-lines input answer else
     if eqb call Call.UNESCAPE then source-agrees unescaping input answer else
     if eqb call Call.LOOKUP then lookup-agrees given answer else

@@ -8,7 +8,7 @@ ghost use mathlib.Core.List.{_∷_};
 ghost use Prim.Native.Nat.{_-_, _≤_};
 ghost use lib.ListN.{length};
 ghost use Rattle.definition.specs.Text.{same as Text·same};
-ghost use Rattle.definition.specs.Calls.{building-lines, unescaping};
+ghost use Rattle.definition.specs.Calls.{listing-tokens, building-lines, unescaping};
 ghost use Rattle.records.specs.Rubbish.{most};
 ghost use Rattle.records.specs.Agrees.{filled-numbers, source-agrees, lookup-agrees, paste-agrees, call-agrees};
 ghost use Rattle.records.specs.Agrees.{agrees as Agrees·agrees};
@@ -50,6 +50,23 @@ fn counted(got: Counted, table: &[u32], answer: &[u32]) -> bool
         return false;
     }
     same(table, &answer[2..])
+}
+
+// Listing tokens.
+fn tokens_into(src: &[u8], table: &mut [u32], answer: &[u32]) -> bool
+    ensures { λ r. ⌜ r ≡ Text·same (filled-numbers (listing-tokens (now (src .entry)) (length (now (table .entry))))) (now (answer .entry)) ⌝ }
+{
+    let got = shader_reader::shader_tokens(src, table);
+    counted(got, table, answer)
+}
+
+fn tokens(src: &[u8], answer: &[u32]) -> bool
+    requires { ⌜ length (now answer) ≤ most ⌝ }
+    ensures { λ r. ⌜ r ≡ source-agrees listing-tokens (now (src .entry)) (now (answer .entry)) ⌝ }
+{
+    let mut table = rubbish::numbers();
+    let n = room(answer);
+    tokens_into(src, &mut table[..n], answer)
 }
 
 // Building a line table.
@@ -111,13 +128,13 @@ fn paste(given: &[u32], answer: &[u32]) -> bool
     same(&[got.refusal, got.kind], answer)
 }
 
-// A call by its number. Listing tokens is not compared yet.
+// A call by its number.
 fn call_agrees(call: u8, input: &[u8], given: &[u32], answer: &[u32]) -> bool
     requires { ⌜ length (now answer) ≤ most ⌝ }
     ensures { λ r. ⌜ r ≡ call-agrees call (now (input .entry)) (now (given .entry)) (now (answer .entry)) ⌝ }
 {
     match call {
-        TOKENS => true,
+        TOKENS => tokens(input, answer),
         LINES => lines(input, answer),
         UNESCAPE => unescape(input, answer),
         LOOKUP => lookup(given, answer),
