@@ -20,7 +20,7 @@ use Rattle.syntax_kind.specs.declared.paste.Pasted.{Pasted}
 use Rattle.records.specs.Numbers.{numbers}
 use Rattle.records.specs.Rubbish.{most}
 use Rattle.records.specs.Agrees.{filled-numbers, looked-numbers, pasted-numbers, source-agrees, lookup-agrees, paste-agrees, call-agrees, agrees}
-use Rattle.records.proofs.Lent.{lent}
+use Rattle.records.proofs.Lent.{lent, lent-most}
 use Rattle.records.proofs.Sames.{other-length}
 
 -- A slice from a place to its end.
@@ -91,16 +91,33 @@ pub lent-agrees : (call : List ℕ → ℕ → Filled) (src answer t : List ℕ)
 lent-agrees call src answer t n r e h l q = q ∙ rw (← lent n t h l, e)
 
 -- A row that was written into a table stands in its front.
-pub written-part : (row t t₁ : List ℕ) (n : ℕ) → Written row t n t₁ → n ≤ length t₁ → take n t₁ ≡ row
-written-part row t t₁ n k h =
-    let l : length t₁ ≡ length t = ap length (k .table-is) ∙ length-sets t 0 row in
-    let e : n ≡ length row = k .count-is in
-    let b : 0 + length row ≤ length t = omega arith in
-    rw (k .table-is, sets-eq row t 0 b) (take-at row _ n (sym e))
+module _ (row t t₁ : List ℕ) (n : ℕ) (w : Written row t n t₁) (h : n ≤ most) (l : most ≡ length t) where
+  same-long : length t₁ ≡ length t
+  same-long = ap length (w .table-is) ∙ length-sets t 0 row
 
-pub written-agrees : (o : Filled) (got : Counted) (row t t₁ answer : List ℕ) (n : ℕ) (r : Bool) → Fills o got row → Written row t n t₁ → n ≤ length t₁
-    → r ≡ same (got .refusal ∷ got .count ∷ take n t₁) answer → r ≡ same (filled-numbers o) answer
-written-agrees o got row t t₁ answer n r k w h q = filled-agrees answer r o got row k (rw (written-part row t t₁ n w h) at q)
+  pub written-long : n ≡ length (take n t₁)
+  written-long = lent n t₁ h (l ∙ sym same-long)
+
+  pub written-most : length (take n t₁) ≤ most
+  written-most = lent-most n t₁ h (l ∙ sym same-long)
+
+  pub written-part : take n t₁ ≡ row
+  written-part =
+      let e : n ≡ length row = w .count-is in
+      let b : 0 + length row ≤ length t = omega arith in
+      rw (w .table-is, sets-eq row t 0 b) (take-at row _ n (sym e))
+
+-- So the bytes of an output are compared as numbers.
+module _ (out out₀ t t₁ : List ℕ) (n : ℕ) (w : Written out t n t₁) (e : length out ≡ length out₀) (b : length out₀ ≤ most) (l : most ≡ length t) where
+  few : n ≤ most
+  few = omega (arith, w .count-is)
+
+  pub output-long : n ≡ length (take n t₁)
+  output-long = written-long out t t₁ n w few l
+
+  pub output-agrees : (o : Filled) (got : Counted) (answer : List ℕ) (r : Bool) → Fills o got out → r ≡ same (got .refusal ∷ got .count ∷ take n t₁) answer
+      → r ≡ same (filled-numbers o) answer
+  output-agrees o got answer r k q = filled-agrees answer r o got out k (rw (written-part out t t₁ n w few l) at q)
 
 -- The numbers of the input and of the answer are read into tables, if they are few enough.
 module _ (call : ℕ) (input answer t t₁ : List ℕ) (n : ℕ) (w : Written (numbers input) t n t₁) where
@@ -116,8 +133,8 @@ module _ (call : ℕ) (input answer t t₁ : List ℕ) (n : ℕ) (w : Written (n
     unfolding agrees
     long-answer h = let l : most < length (numbers answer) = omega (arith, v .count-is) in rw (few-input, lt-leb (length (numbers answer)) most l)
 
-    pub read-agrees : (r : Bool) → m ≤ most → n ≤ length t₁ → m ≤ length u₁ → r ≡ call-agrees call input (take n t₁) (take m u₁) → r ≡ agrees call input answer
+    pub read-agrees : (r : Bool) → m ≤ most → most ≡ length t → most ≡ length u → r ≡ call-agrees call input (take n t₁) (take m u₁) → r ≡ agrees call input answer
     unfolding agrees
     read-agrees r h b d q =
         let l : length (numbers answer) ≤ most = omega (arith, v .count-is) in
-        rw (few-input, le-leb (length (numbers answer)) most l) (rw (written-part (numbers input) t t₁ n w b, written-part (numbers answer) u u₁ m v d) at q)
+        rw (few-input, le-leb (length (numbers answer)) most l) (rw (written-part (numbers input) t t₁ n w k b, written-part (numbers answer) u u₁ m v h d) at q)

@@ -1,20 +1,16 @@
 -- The two loops over a file: what is done, with what is left of the file, is the whole.
-use Prim.Native.Nat.{ℕ, suc, _+_, _≤_, _<_}
+use Prim.Native.Nat.{ℕ, suc, _+_, _≤_}
 use native.Mathlib.Nat.{add-zero}
 use native.Mathlib.Numerals.{add-one}
 use native.Mathlib.Omega.{arith}
 use mathlib.Core.Path.{_≡_, refl, sym, ap, _∙_}
 use mathlib.Core.Bool.{Bool, true, false}
-use mathlib.Core.List.{List, [], _∷_}
-use lib.ListN.{length}
-use borrow.Author.Tests.{eq-eqb, ne-eqb}
-use Rattle.definition.specs.Text.{if_then_else_}
+use mathlib.Core.List.{List, _∷_}
 use Rattle.records.specs.Agrees.{agrees}
 use Rattle.records.specs.Compared.{part, found-agrees, call-of, compared-from, compared}
-use Rattle.records.specs.Rows.{found-at, file, how-many}
+use Rattle.records.specs.Rows.{found-at, file, one-if, how-many}
 use Rattle.records.specs.declared.record.Found.{Found}
 use Rattle.records.specs.declared.record.Found.the-variants.{Record, End, Cut}
-use Rattle.records.specs.declared.Comparison.{Comparison}
 use Rattle.records.specs.declared.Comparison.the-variants.{Same, Differs}
 use Rattle.records.proofs.Walks.{Lies, lies, Walk, walk-start, Next, walk-record, walk-end, walk-cut}
 
@@ -36,21 +32,14 @@ module _ (s : List ℕ) (call n at : ℕ) (k : Counting s call n at) (f : Found)
     where-next : Lies s at input behind answer next
     where-next = lies s at c input behind answer next f e q
 
-    counted-on : (m : ℕ) → m ≤ 1 → how-many call (k .rest) ≡ m + how-many call (next-one .tail) → Counting s call (n + m) next
-    counted-on m b h = record {
+    pub count-more : (m : ℕ) → m ≡ one-if c call → m ≤ 1 → Counting s call (n + m) next
+    unfolding how-many
+    count-more m g b = record {
       few = omega (arith, where-next .further, k .few);
       rest = next-one .tail;
       walk = next-one .walk;
-      sum = omega (arith, k .sum);
+      sum = omega (arith, ap (how-many call) (next-one .here), k .sum);
     }
-
-    pub count-this : c ≡ call → Counting s call (n + 1) next
-    unfolding how-many
-    count-this g = counted-on 1 (omega arith) (ap (how-many call) (next-one .here) ∙ rw (eq-eqb c call g) (omega arith))
-
-    pub count-other : (c ≡ call → ⊥) → Counting s call n next
-    unfolding how-many
-    count-other g = rw (← add-zero n) (counted-on 0 (omega arith) (ap (how-many call) (next-one .here) ∙ rw (ne-eqb c call g) (omega arith)))
 
   pub count-end : f ≡ End → n ≡ how-many call (file s)
   unfolding how-many

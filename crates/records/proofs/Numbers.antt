@@ -3,13 +3,13 @@ use Prim.Native.Nat.{ℕ, _+_, _-_, _≤_, _<_}
 use native.Mathlib.Nat.{add-zero}
 use native.Mathlib.Numerals.{add-one}
 use native.Mathlib.Omega.{arith}
-use mathlib.Core.Path.{_≡_, refl, sym, ap, _∙_}
+use mathlib.Core.Path.{_≡_, refl, _∙_}
 use mathlib.Core.List.{List, [], _∷_}
 use lib.ListN.{length, drop, getD, set, length-drop, drop-of-length-le}
 use lib.Seq.{sets, drop-cons, drop-drop, getD-drop}
 use Rattle.text.specs.Fills.{Written}
 use Rattle.text.proofs.Tables.{Writing, write-more, write-none, write-long}
-use Rattle.records.specs.Numbers.{four, number32, numbers}
+use Rattle.records.specs.Numbers.{number32, numbers}
 
 -- Fewer than four bytes hold no number,
 short : (s : List ℕ) → length s < 4 → numbers s ≡ []

@@ -1,13 +1,12 @@
 -- What stands at a place of a file, by the tests of the code.
 use Prim.Native.Nat.{ℕ, _+_, _-_, _*_, _≤_, _<_}
 use native.Mathlib.Omega.{arith}
-use mathlib.Core.Path.{_≡_, refl, sym, ap, _∙_}
+use mathlib.Core.Path.{_≡_, _∙_}
 use mathlib.Core.List.{List}
 use lib.ListN.{length, getD}
 use borrow.Author.Tests.{lt-ltb, le-ltb, le-leb, lt-leb, eq-eqb, ne-eqb}
 use Rattle.records.specs.Numbers.{number16}
 use Rattle.records.specs.Rows.{input-at, input-end, answer-at, next-at, found-at}
-use Rattle.records.specs.declared.record.Found.{Found}
 use Rattle.records.specs.declared.record.Found.the-variants.{Record, End, Cut}
 
 module _ (s : List ℕ) (at : ℕ) where

@@ -1,4 +1,4 @@
--- A walk over the records of a file: where the parts of each lie, what is left behind it, and how records are counted.
+-- A walk over the records of a file: where the parts of each lie, and what is left behind it.
 use Prim.Native.Nat.{ℕ, suc, _+_, _-_, _≤_, _<_}
 use native.Mathlib.Omega.{arith}
 use mathlib.Core.Path.{_≡_, refl, sym, ap, _∙_}
@@ -6,9 +6,9 @@ use mathlib.Core.Bool.{Bool, true, false}
 use mathlib.Core.List.{List, [], _∷_}
 use lib.Dec.{eqb, leb, ltb}
 use lib.ListN.{length, getD}
-use borrow.Author.Tests.{ltb-false, eq-eqb, ne-eqb}
+use borrow.Author.Tests.{ltb-false}
 use Rattle.definition.specs.Text.{if_then_else_}
-use Rattle.records.specs.Rows.{input-at, input-end, answer-at, next-at, found-at, rows, file, how-many}
+use Rattle.records.specs.Rows.{input-at, input-end, answer-at, next-at, found-at, rows, file}
 use Rattle.records.specs.declared.record.Found.{Found}
 use Rattle.records.specs.declared.record.Found.the-variants.{Record, End, Cut}
 

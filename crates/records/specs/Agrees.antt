@@ -1,5 +1,5 @@
 -- When a recorded answer is the definition's.
-use Rattle.definition.specs.Text.{ℕ, _-_, Bool, true, false, _&&_, List, [], _∷_, eqb, leb, length, same, if_then_else_}
+use Rattle.definition.specs.Text.{ℕ, _-_, Bool, false, _&&_, List, [], _∷_, eqb, leb, length, same, if_then_else_}
 use Rattle.definition.specs.Calls.{Filled, listing-tokens, building-lines, unescaping, Looked, looking-up, Pasted, pasting}
 use Rattle.records.specs.Numbers.{numbers}
 use Rattle.records.specs.Rubbish.{most}

@@ -1,5 +1,5 @@
 -- How the answers of a file compare: the first record that differs.
-use Rattle.definition.specs.Text.{ℕ, zero, suc, _-_, Bool, true, false, List, [], _∷_, take}
+use Rattle.definition.specs.Text.{ℕ, suc, _-_, Bool, true, false, List, [], _∷_, take}
 use lib.ListN.{drop}
 use Rattle.records.specs.Agrees.{agrees}
 use Rattle.records.specs.Rows.{file}

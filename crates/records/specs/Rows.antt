@@ -39,9 +39,13 @@ rows (suc n) s at =
 abbrev pub file : List ℕ → List Found
 file s = rows (suc (length s)) s 0
 
+-- 1 for a record of that call.
+abbrev pub one-if : ℕ → ℕ → ℕ
+one-if c call = if eqb c call then 1 else 0
+
 -- How many records of a call there are.
 unfoldable pub how-many : ℕ → List Found → ℕ
 how-many call [] = 0
-how-many call (Record c i e a n ∷ rs) = if eqb c call then suc (how-many call rs) else how-many call rs
+how-many call (Record c i e a n ∷ rs) = one-if c call + how-many call rs
 how-many call (End ∷ rs) = how-many call rs
 how-many call (Cut ∷ rs) = how-many call rs

@@ -1,7 +1,8 @@
 // A file of recorded answers: records one after another, and then a byte 0.
 use crate::number::number16;
 ghost use mathlib.Core.Path.{_≡_};
-ghost use Rattle.records.specs.Rows.{found-at, file, how-many};
+ghost use Prim.Native.Nat.{_≤_};
+ghost use Rattle.records.specs.Rows.{found-at, file, one-if, how-many};
 
 // What stands at a place of a file.
 pub enum Found {
@@ -55,6 +56,17 @@ pub fn record_at(s: &[u8], at: usize) -> Found
     }
 }
 
+// 1 for a record of that call.
+fn one_if(c: u8, call: u8) -> usize
+    ensures { λ r. ⌜ r ≡ one-if c call ⌝ }
+    ensures { λ r. ⌜ r ≤ 1 ⌝ }
+{
+    if c == call {
+        return 1;
+    }
+    0
+}
+
 // How many records of a call a file has.
 pub fn count(s: &[u8], call: u8) -> usize
     ensures { λ r. ⌜ r ≡ how-many call (file (now (s .entry))) ⌝ }
@@ -70,12 +82,8 @@ pub fn count(s: &[u8], call: u8) -> usize
                 answer: _,
                 next,
             } => {
+                n += one_if(c, call);
                 at = next;
-                if c == call {
-                    n += 1;
-                    continue;
-                }
-                continue;
             }
             Found::End => return n,
             Found::Cut => return n,

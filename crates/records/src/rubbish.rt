@@ -1,4 +1,5 @@
-// Tables before a call: full of what a call must not leave in them.
+// Tables before a call: full of what a call must not leave in them. The contracts give the length, which lending a part needs; nothing
+// hangs on what the tables hold.
 ghost use mathlib.Core.Path.{_≡_};
 ghost use lib.ListN.{length};
 ghost use Rattle.records.specs.Rubbish.{most};

@@ -49,9 +49,8 @@ fn print_comparison(c: Comparison) -> usize
             0
         }
         Comparison::Differs { number, call } => {
-            io::write_all(STDOUT_FILENO, b"difference,");
-            io::print_decimal(STDOUT_FILENO, number as u64);
-            print_count(b"", call as usize);
+            print_count(b"difference", number);
+            print_count(b"call", call as usize);
             2
         }
     }

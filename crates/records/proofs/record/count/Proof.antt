@@ -3,7 +3,7 @@ use Prim.Native.Nat.{_-_}
 use lib.ListN.{length}
 use Rattle.text.proofs.Cases.{cases}
 use Rattle.records.proofs.Walks.{nearer}
-use Rattle.records.proofs.Compared.{Counting, count-none, count-this, count-other, count-end, count-cut}
+use Rattle.records.proofs.Compared.{Counting, count-none, count-more, count-end, count-cut}
 use Rattle.records.proofs.record.count.Statement.{statement}
 use Rattle.records.proofs.record.count.Tie as tie
 
@@ -22,11 +22,10 @@ count-spec =
     (λ c. count-none _ _)
     (λ c κs. search cases)
     (λ c. search cases)
+    (λ c κs. search cases)
     (λ c. search cases)
     (λ c. search (nearer, cases))
-    (λ c. search (count-this, cases))
-    (λ c. search (nearer, cases))
-    (λ c. search (count-other, cases))
+    (λ c. search (count-more, cases))
     (λ c. search cases)
     (λ c. search (count-end, cases))
     (λ c. search cases)
