@@ -17,7 +17,7 @@ use Rattle.theorems.proofs.Lexing.Glues.{every, Loose, loose-none, settled-none
 use Rattle.theorems.proofs.Lexing.Sorts.{other, sort, Ends, Of}
 use Rattle.pre.specs.Table.{Entry, punct, entry, entry-of}
 use Rattle.pre.proofs.Classes.{says}
-use Rattle.pre.proofs.States.{begin-letter, begin-digit, begin-newline, begin-blank, begin-slash, begin-backslash, begin-punct, flag-kept}
+use Rattle.pre.proofs.States.{begin-letter, begin-digit, begin-newline, begin-blank, begin-slash, begin-backslash, Plain, begin-punct, flag-kept}
 use Rattle.glue.specs.Next.{peeked}
 
 -- By cases: two numbers are equal or not.
@@ -105,11 +105,11 @@ module _ (f : Bool) (b : ℕ) where
       several whitespace (begin-blank b _ f refl c) (of-other whitespace refl refl refl)
       (λ k m. zero-by f b k (none-kind k (entry b) (rw c (digits-none k m)))) (λ z. omega arith)
 
-  at-punct : Kind.PERIOD ≤ entry b → (b ≡ byte "_" → ⊥) → (b ≡ byte "/" → ⊥) → (b ≡ byte "\"" → ⊥) → (b ≡ byte "<" → ⊥) → (b ≡ byte "\\" → ⊥) → Begun f b
-  at-punct h n₁ n₂ n₃ n₄ n₅ =
-      let d : begin f b ≡ done (punct b) = begin-punct b (entry b) f refl h n₁ n₂ n₃ n₄ n₅ in
+  at-punct : Kind.PERIOD ≤ entry b → Plain b → Begun f b
+  at-punct h n =
+      let d : begin f b ≡ done (punct b) = begin-punct b (entry b) f refl h n in
       let p : punct b ≡ entry b = sym (says b (entry b) refl .punct-is h) in
-      single (rw p at d) h (flag-kept b (entry b) f refl (λ z. omega arith) n₃ n₄) (other-than f b (rw (ne-eqb b (byte "<") n₄) (and-false f)))
+      single (rw p at d) h (flag-kept b (entry b) f refl (λ z. omega arith) (n .no-quote) (n .no-less)) (other-than f b (rw (ne-eqb b _ (n .no-less)) (and-false f)))
 
 pub begun : (f : Bool) (b : ℕ) → Begun f b
 begun f b =
@@ -122,7 +122,7 @@ begun f b =
     either (Begun f b) b (byte "\"") (λ c. rw c (at-quote f)) (λ n₃.
     either (Begun f b) b (byte "<") (λ c. rw c (at-less f)) (λ n₄.
     either (Begun f b) b (byte "\\") (λ c. rw c (at-backslash f)) (λ n₅.
-    at-punct f b (omega arith) n₁ n₂ n₃ n₄ n₅)))))))))
+    at-punct f b (omega arith) (record { no-under = n₁; no-slash = n₂; no-quote = n₃; no-less = n₄; no-backslash = n₅ }))))))))))
 
 -- A byte of 192 or more is no character of `puncts`, so it is an ERROR.
 unfoldable lows : List ℕ → Bool

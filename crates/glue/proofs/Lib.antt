@@ -1,3 +1,4 @@
+pub mod Matches
 pub mod Begins
 pub mod Peeks
 pub mod Periods

@@ -1,5 +1,5 @@
 -- What a step of the lexer promises.
-use Prim.Native.Nat.{ℕ, _≤_, _<_}
+use Prim.Native.Nat.{ℕ, _≤_}
 use mathlib.Core.Path.{_≡_}
 use mathlib.Core.Bool.{Bool, _&&_, _||_}
 use mathlib.Core.List.{List}
@@ -10,12 +10,13 @@ use Rattle.definition.specs.SyntaxKind.{Kind}
 use Rattle.theorems.specs.Step.{Gluing, Stepped, glued-kind}
 use Rattle.pre.specs.Table.{entry}
 use Rattle.glue.specs.declared.Lexer.{Lexer}
-use Rattle.glue.specs.declared.Step.{Step}
+use Rattle.glue.specs.declared.Next.{Next}
+use Rattle.glue.specs.declared.Next.the-variants.{Token, End}
 
--- The step from l gives r: the first token of what l stands for, and what stands for the others; at the end of the source the kind is 0.
-pub record Nexts (s : List ℕ) (l : Lexer) (r : Step) : Type 0 where
-  pub at-end : length s ≤ l .input .at → r ≡ record { kind = 0; next = l }
-  pub at-token : l .input .at < length s → Stepped s (l .input .at) (l .input .angle) (r .kind) (r .next .input .at) (r .next .input .angle)
+-- What the step from l promises: the first token of what l stands for, with what stands for the others, or the end of the source.
+unfoldable pub Nexts : List ℕ → Lexer → Next → Type 0
+Nexts s l (Token r) = Stepped s (l .input .at) (l .input .angle) (r .kind) (r .next .input .at) (r .next .input .angle)
+Nexts s l End = length s ≤ l .input .at
 
 -- Whether nothing glues to a token of this kind.
 unfoldable pub settled : ℕ → Bool

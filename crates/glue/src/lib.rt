@@ -3,6 +3,7 @@ pub mod operators;
 
 use crate::operators::glue;
 use pre::PreLexer;
+use pre::PreNext;
 use pre::class::Class;
 use syntax_kind::kind::Kind;
 ghost use mathlib.Core.Path.{_≡_};
@@ -19,10 +20,16 @@ pub struct Lexer {
     pub input: PreLexer,
 }
 
-// The kind of a token, and the state behind it, where the token ends. At the end of the source the kind is 0.
+// The kind of a token, and the state behind it, where the token ends.
 pub struct Step {
     pub kind: u8,
     pub next: Lexer,
+}
+
+// What a step answers: a token, or the end of the source.
+pub enum Next {
+    Token(Step),
+    End,
 }
 
 // Whether b opens an angle string.
@@ -46,7 +53,8 @@ fn peek(table: &[u8; 256], kind: u8, b: u8, angle: bool) -> u8
     glue(kind, pre::class::class_of(table, b))
 }
 
-// The operator of kind `kind` that starts at `start` and has been read up to `at`, with what glues to it.
+// The operator of kind `kind` that has been read up to `at`, with what glues to it. Of `start` and `flag`, where the token
+// starts and whether an angle string was expected there, only the contract speaks.
 fn operator(
     src: &[u8],
     table: &[u8; 256],
@@ -82,7 +90,7 @@ fn operator(
     }
 }
 
-// A PERIOD that starts at `start` and ends at `at`, with the number behind it.
+// A PERIOD that ends at `at`, with the number behind it. Of `start` and `flag` only the contract speaks.
 fn period(src: &[u8], table: &[u8; 256], start: usize, flag: bool, at: usize, angle: bool) -> Step
     requires { ⌜ (now table ≡ class-table) × (Gluing (now src) start flag SyntaxKind.PERIOD at angle) ⌝ }
     ensures { λ r. ⌜ Stepped (now (src .entry)) start flag (r .kind) (r .next .input .at) (r .next .input .angle) ⌝ }
@@ -139,31 +147,27 @@ impl Lexer {
     }
 
     // The token where the lexer stands, and the state behind it.
-    pub fn next(self, src: &[u8], table: &[u8; 256]) -> Step
+    pub fn next(self, src: &[u8], table: &[u8; 256]) -> Next
         requires { ⌜ now table ≡ class-table ⌝ }
         ensures { λ r. ⌜ Nexts (now (src .entry)) self r ⌝ }
     {
         let p = self.input;
-        let at = p.at;
-        let angle = p.angle;
-        if src.len() <= at {
-            return Step {
-                kind: 0,
-                next: Lexer { input: p },
-            };
+        match p.next(src, table) {
+            PreNext::End => Next::End,
+            PreNext::Token(t) => {
+                let k = t.kind;
+                let n = t.next;
+                if operators::settles(k) {
+                    return Next::Token(Step {
+                        kind: k,
+                        next: Lexer { input: n },
+                    });
+                }
+                if k == Kind::PERIOD {
+                    return Next::Token(period(src, table, p.at, p.angle, n.at, n.angle));
+                }
+                Next::Token(operator(src, table, p.at, p.angle, k, n.at, n.angle))
+            }
         }
-        let t = p.next(src, table);
-        let k = t.kind;
-        let n = t.next;
-        if operators::settles(k) {
-            return Step {
-                kind: k,
-                next: Lexer { input: n },
-            };
-        }
-        if k == Kind::PERIOD {
-            return period(src, table, at, angle, n.at, n.angle);
-        }
-        operator(src, table, at, angle, k, n.at, n.angle)
     }
 }

@@ -109,19 +109,64 @@ says b k e = go (letter b) (digit b) (newline b) (blank b) refl refl refl refl (
     go : (l d n w : Bool) → letter b ≡ l → digit b ≡ d → newline b ≡ n → blank b ≡ w → Kind.PERIOD ≤ punct b → Says b k
     go true d n w p q r t u =
         let z : k ≡ Entry.LETTER = e ∙ rw p in
-        record { letter-is = λ h. p; low-is = λ h. rw p; digit-is = λ h. absurd (omega arith); newline-is = λ h. absurd (omega arith); blank-is = λ h. absurd (omega arith); no-letter = λ h. absurd (h z); no-digit = λ h. absurd (omega arith); punct-is = λ h. absurd (omega arith) }
+        record {
+          letter-is = λ h. p;
+          low-is = λ h. rw p;
+          digit-is = λ h. absurd (omega arith);
+          newline-is = λ h. absurd (omega arith);
+          blank-is = λ h. absurd (omega arith);
+          no-letter = λ h. absurd (h z);
+          no-digit = λ h. absurd (omega arith);
+          punct-is = λ h. absurd (omega arith);
+        }
     go false true n w p q r t u =
         let z : k ≡ Entry.DIGIT = e ∙ rw (p, q) in
-        record { letter-is = λ h. absurd (omega arith); low-is = λ h. rw (p, q); digit-is = λ h. q; newline-is = λ h. absurd (omega arith); blank-is = λ h. absurd (omega arith); no-letter = λ h. p; no-digit = λ h. absurd (omega arith); punct-is = λ h. absurd (omega arith) }
+        record {
+          letter-is = λ h. absurd (omega arith);
+          low-is = λ h. rw (p, q);
+          digit-is = λ h. q;
+          newline-is = λ h. absurd (omega arith);
+          blank-is = λ h. absurd (omega arith);
+          no-letter = λ h. p;
+          no-digit = λ h. absurd (omega arith);
+          punct-is = λ h. absurd (omega arith);
+        }
     go false false true w p q r t u =
         let z : k ≡ Entry.NEWLINE = e ∙ rw (p, q, r) in
-        record { letter-is = λ h. absurd (omega arith); low-is = λ h. absurd (omega arith); digit-is = λ h. absurd (omega arith); newline-is = λ h. r; blank-is = λ h. absurd (omega arith); no-letter = λ h. p; no-digit = λ h. q; punct-is = λ h. absurd (omega arith) }
+        record {
+          letter-is = λ h. absurd (omega arith);
+          low-is = λ h. absurd (omega arith);
+          digit-is = λ h. absurd (omega arith);
+          newline-is = λ h. r;
+          blank-is = λ h. absurd (omega arith);
+          no-letter = λ h. p;
+          no-digit = λ h. q;
+          punct-is = λ h. absurd (omega arith);
+        }
     go false false false true p q r t u =
         let z : k ≡ Entry.WS = e ∙ rw (p, q, r, t) in
-        record { letter-is = λ h. absurd (omega arith); low-is = λ h. absurd (omega arith); digit-is = λ h. absurd (omega arith); newline-is = λ h. absurd (omega arith); blank-is = λ h. t; no-letter = λ h. p; no-digit = λ h. q; punct-is = λ h. absurd (omega arith) }
+        record {
+          letter-is = λ h. absurd (omega arith);
+          low-is = λ h. absurd (omega arith);
+          digit-is = λ h. absurd (omega arith);
+          newline-is = λ h. absurd (omega arith);
+          blank-is = λ h. t;
+          no-letter = λ h. p;
+          no-digit = λ h. q;
+          punct-is = λ h. absurd (omega arith);
+        }
     go false false false false p q r t u =
         let z : k ≡ punct b = e ∙ rw (p, q, r, t) in
-        record { letter-is = λ h. absurd (omega arith); low-is = λ h. absurd (omega arith); digit-is = λ h. absurd (omega arith); newline-is = λ h. absurd (omega arith); blank-is = λ h. absurd (omega arith); no-letter = λ h. p; no-digit = λ h. q; punct-is = λ h. z }
+        record {
+          letter-is = λ h. absurd (omega arith);
+          low-is = λ h. absurd (omega arith);
+          digit-is = λ h. absurd (omega arith);
+          newline-is = λ h. absurd (omega arith);
+          blank-is = λ h. absurd (omega arith);
+          no-letter = λ h. p;
+          no-digit = λ h. q;
+          punct-is = λ h. z;
+        }
 
 module _ (b k : ℕ) (e : k ≡ entry b) where
   pub no-newline : (k ≡ Entry.NEWLINE → ⊥) → newline b ≡ false

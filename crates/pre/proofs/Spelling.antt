@@ -75,6 +75,10 @@ module _ (t : List ℕ) (i w : ℕ) (h : i < length t) (v : w ≡ continuation (
   at-gap : (w ≡ 0 → ⊥) → Dropped (getD t i 0) (drop (suc i) t) w
   at-gap n = dropped (getD t i 0) (drop (suc i) t) w (v ∙ ap continuation (drop-cons t i 0 h)) n
 
+  gap-dropped : (w ≡ 0 → ⊥) → unescaped (drop i t) ≡ unescaped (drop (i + w) t)
+  gap-dropped n =
+      ap unescaped (drop-cons t i 0 h) ∙ at-gap n .is ∙ ap (λ l. unescaped (drop w l)) (sym (drop-cons t i 0 h)) ∙ ap unescaped (drop-drop w i t)
+
   gap-within : (w ≡ 0 → ⊥) → i + w ≤ length t
   gap-within n = omega (arith, at-gap n .within, length-drop (suc i) t)
 
@@ -109,7 +113,7 @@ module _ (t word : List ℕ) (i k : ℕ) (g : Spelling t word i k) where
     pub spelling-gap : (w ≡ 0 → ⊥) → Spelling t word (i + w) k
     spelling-gap n = record {
       most = g .most;
-      is = g .is ∙ ap (λ l. same l (drop k word)) (ap unescaped (drop-cons t i 0 h) ∙ at-gap t i w h v n .is ∙ ap (λ l. unescaped (drop w l)) (sym (drop-cons t i 0 h)) ∙ ap unescaped (drop-drop w i t));
+      is = g .is ∙ ap (λ l. same l (drop k word)) (gap-dropped t i w h v n);
     }
 
     -- and any other byte is compared.

@@ -8,7 +8,7 @@ use lib.Dec.{eqb}
 use borrow.Author.Tests.{ne-eqb, eqb-true}
 use Rattle.definition.specs.Text.{byte}
 use Rattle.definition.specs.SyntaxKind.{Kind}
-use Rattle.definition.specs.Newline.{LF, CR, CRLF, letter, digit}
+use Rattle.definition.specs.Newline.{LF, CR, CRLF, letter, digit, newline, blank}
 use Rattle.definition.specs.Pre.{done, slash, ident, single-comment, whitespace, backslash, digits, alone, in-digits, begin, flag, more}
 use Rattle.pre.specs.Table.{Entry, punct, entry}
 use Rattle.pre.specs.Scan.{takes-point}
@@ -130,6 +130,14 @@ closed-point b e d t = go (not d && eqb b (byte ".")) (e && (eqb b (byte "+") ||
     go false true p q r = by (sign-of b e q)
     go false false p q r = absurd (false≢true r)
 
+-- A byte that begins no token of several characters, if it is punctuation.
+pub record Plain (b : ℕ) : Type 0 where
+  pub no-under : b ≡ byte "_" → ⊥
+  pub no-slash : b ≡ byte "/" → ⊥
+  pub no-quote : b ≡ byte "\"" → ⊥
+  pub no-less : b ≡ byte "<" → ⊥
+  pub no-backslash : b ≡ byte "\\" → ⊥
+
 -- The state after a token's first byte.
 pub begin-slash : (f : Bool) → begin f (byte "/") ≡ slash
 unfolding begin
@@ -171,12 +179,14 @@ module _ (b k : ℕ) (f : Bool) (c : k ≡ entry b) where
       go (is-3 p) = rw p
 
   -- Punctuation that begins no longer token.
-  pub begin-punct : Kind.PERIOD ≤ k → (b ≡ byte "_" → ⊥) → (b ≡ byte "/" → ⊥) → (b ≡ byte "\"" → ⊥) → (b ≡ byte "<" → ⊥) → (b ≡ byte "\\" → ⊥)
-      → begin f b ≡ done (punct b)
+  pub begin-punct : Kind.PERIOD ≤ k → Plain b → begin f b ≡ done (punct b)
   unfolding begin punct
-  begin-punct h n₁ n₂ n₃ n₄ n₅ =
+  begin-punct h n =
       let s : Says b k = says b k c in
-      rw (s .no-letter (λ y. omega arith), ne-eqb b (byte "_") n₁, s .no-digit (omega arith), no-newline b k c (λ y. omega arith), no-blank b k c (λ y. omega arith), ne-eqb b (byte "\"") n₃, ne-eqb b (byte "<") n₄, and-false f, ne-eqb b (byte "\\") n₅, ne-eqb b (byte "/") n₂)
+      let l : newline b ≡ false = no-newline b k c (λ y. omega arith) in
+      let w : blank b ≡ false = no-blank b k c (λ y. omega arith) in
+      rw (s .no-letter (λ y. omega arith), ne-eqb b _ (n .no-under), s .no-digit (omega arith), l, w, ne-eqb b _ (n .no-quote))
+      (rw (ne-eqb b _ (n .no-less), and-false f, ne-eqb b _ (n .no-backslash), ne-eqb b _ (n .no-slash)))
 
   -- The flag is kept by every byte but a newline, a quote and a `<`.
   pub flag-kept : (k ≡ Entry.NEWLINE → ⊥) → (b ≡ byte "\"" → ⊥) → (b ≡ byte "<" → ⊥) → flag f b ≡ f

@@ -17,7 +17,7 @@ ghost use Prim.Native.Nat.{_<_, _+_};
 ghost use lib.ListN.{length, getD};
 ghost use Rattle.definition.specs.Pre.{begin, flag};
 ghost use Rattle.pre.specs.Table.{class-table};
-ghost use Rattle.pre.specs.Scan.{from, pre-step};
+ghost use Rattle.pre.specs.Scan.{from, pre-next};
 
 // The token that starts at `at`.
 fn token_at(src: &[u8], table: &[u8; 256], at: usize, angle: bool) -> Token
@@ -68,10 +68,16 @@ pub struct PreLexer {
     pub angle: bool,
 }
 
-// The kind of a token, and the state behind it, where the token ends. At the end of the source the kind is 0.
+// The kind of a token, and the state behind it, where the token ends.
 pub struct PreStep {
     pub kind: u8,
     pub next: PreLexer,
+}
+
+// What a step answers: a token, or the end of the source.
+pub enum PreNext {
+    Token(PreStep),
+    End,
 }
 
 impl PreLexer {
@@ -85,28 +91,23 @@ impl PreLexer {
     }
 
     // The token where the pre-lexer stands, and the state behind it.
-    pub fn next(self, src: &[u8], table: &[u8; 256]) -> PreStep
+    pub fn next(self, src: &[u8], table: &[u8; 256]) -> PreNext
         requires { ⌜ now table ≡ class-table ⌝ }
-        ensures { λ r. ⌜ r ≡ pre-step self (now (src .entry)) ⌝ }
+        ensures { λ r. ⌜ r ≡ pre-next self (now (src .entry)) ⌝ }
     {
         let at = self.at;
         let angle = self.angle;
         if src.len() <= at {
-            return PreStep {
-                kind: 0,
-                next: PreLexer { at, angle },
-            };
+            return PreNext::End;
         }
         let t = token_at(src, table, at, angle);
         let end = t.end;
         let kind = name::name(src, at, end, t.kind);
         let flag = keeps(table, angle, src[at]);
-        PreStep {
-            kind,
-            next: PreLexer {
-                at: end,
-                angle: flag,
-            },
-        }
+        let next = PreLexer {
+            at: end,
+            angle: flag,
+        };
+        PreNext::Token(PreStep { kind, next })
     }
 }

@@ -12,7 +12,7 @@ use lib.Seq.{sets}
 use Rattle.definition.specs.Runs.{text, grouped}
 use Rattle.definition.specs.Newline.{chars}
 use Rattle.definition.specs.Pre.{pres}
-use Rattle.definition.specs.Glue.{Token, tokens, token-numbers}
+use Rattle.definition.specs.Glue.{tokens, token-numbers}
 use Rattle.definition.specs.Tree.{Width}
 use Rattle.definition.specs.Calls.{longest-source}
 use Rattle.theorems.specs.Step.{Stepped}
@@ -20,6 +20,8 @@ use Rattle.text.specs.Fills.{Written}
 use Rattle.text.proofs.Tables.{Writing, write-none, write-long}
 use Rattle.glue.specs.declared.Lexer.{Lexer}
 use Rattle.glue.specs.declared.Step.{Step}
+use Rattle.glue.specs.declared.Next.{Next}
+use Rattle.glue.specs.declared.Next.the-variants.{Token, End}
 use Rattle.glue.specs.Next.{Nexts}
 
 -- The numbers of the tokens from a place of the source on.
@@ -55,9 +57,10 @@ start s t l h = record {
 }
 
 module _ (s t₀ t : List ℕ) (l : Lexer) (i n : ℕ) (k : Listing s t₀ t l i n) where
-  module _ (h : i < length s) (r : Step) (x : Nexts s l r) where
+  module _ (x : Next) (y : Nexts s l x) (r : Step) (q : x ≡ Token r) where
     stepped : Stepped s i (l .input .angle) (r .kind) (r .next .input .at) (r .next .input .angle)
-    stepped = rw (k .stands) at (x .at-token (rw (k .stands) h))
+    unfolding Nexts
+    stepped = rw (k .stands) at (rw q at y)
 
     pub further : r .next .input .at ≤ length s
     further = stepped .within
@@ -83,10 +86,18 @@ module _ (s t₀ t : List ℕ) (l : Lexer) (i n : ℕ) (k : Listing s t₀ t l i
           writing = record { counted = omega (arith, v .counted); written = rw (q, e, three) (v .written) };
         }
 
+  pub place-fits : length s ≤ longest-source → Fits w32 i
+  place-fits b = omega (arith, k .within)
+
+  pub number-fits : length s ≤ longest-source → Fits w64 (n + Width.token)
+  number-fits b = omega (arith, k .few, k .within)
+
   pub kept : length t ≡ length t₀
   kept = write-long _ n 0 t t₀ _ (numbers-from false 0 s) (k .writing)
 
-  pub done : length s ≤ i → Written (numbers-from false 0 s) t₀ n t
-  done h =
+  pub done : (x : Next) → Nexts s l x → x ≡ End → Written (numbers-from false 0 s) t₀ n t
+  unfolding Nexts
+  done x y q =
+      let h : length s ≤ i = rw (k .stands) at (rw q at y) in
       let p = write-none _ _ n t (rw (none-behind (l .input .angle) i s h) at (k .writing)) in
       record { count-is = p .0; table-is = p .1 }

@@ -1,5 +1,6 @@
 // The listing of glued tokens: kind, start and end of each, angle strings never expected.
 use glue::Lexer;
+use glue::Next;
 use pre::PreLexer;
 use pre::class;
 use text::Counted;
@@ -51,29 +52,34 @@ fn fill(src: &[u8], t: &mut [u32]) -> usize
     let mut lexer = Lexer::new();
     let mut at: usize = 0;
     let mut n: usize = 0;
-    while at < src.len() {
-        let step = lexer.next(src, &classes);
-        let next = step.next;
-        let input = next.input;
-        let end = input.at;
-        let angle = input.angle;
-        put_token(t, n, wide(step.kind), at as u32, end as u32);
-        lexer = Lexer {
-            input: PreLexer { at: end, angle },
-        };
-        n += WIDTH;
-        at = end;
+    loop {
+        match lexer.next(src, &classes) {
+            Next::Token(step) => {
+                let next = step.next;
+                let input = next.input;
+                let end = input.at;
+                let angle = input.angle;
+                put_token(t, n, wide(step.kind), at as u32, end as u32);
+                lexer = Lexer {
+                    input: PreLexer { at: end, angle },
+                };
+                n += WIDTH;
+                at = end;
+            }
+            Next::End => {
+                return n;
+            }
+        }
     }
-    n
 }
 
 // The tokens of a source.
 pub fn list(src: &[u8], tokens: &mut [u32]) -> Counted
     ensures { λ r. ⌜ Fills (listing-tokens (now (src .entry)) (length (now (tokens .entry)))) r (now (tokens .exit)) ⌝ }
 {
-    table::clear(tokens);
     let refused = source::refused(src);
     if refused != refusal::NONE {
+        table::clear(tokens);
         return Counted {
             refusal: refused,
             count: 0,
@@ -87,6 +93,7 @@ pub fn list(src: &[u8], tokens: &mut [u32]) -> Counted
             count: 0,
         };
     }
+    table::clear(&mut tokens[n..]);
     Counted {
         refusal: refusal::NONE,
         count: (n / WIDTH) as u32,

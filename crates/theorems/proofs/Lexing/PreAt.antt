@@ -2,18 +2,19 @@
 use Prim.Native.Nat.{ℕ, suc, _+_, _≤_, _<_}
 use mathlib.Core.Path.{_≡_, refl, ap, _∙_}
 use mathlib.Core.Bool.{Bool}
-use mathlib.Core.List.{List, _∷_}
+use mathlib.Core.List.{List, [], _∷_}
 use mathlib.Core.Option.{none}
 use native.Mathlib.Omega.{arith}
 use native.Mathlib.Decide.{decLt}
 use lib.ListN.{length, take, drop, getD, drop-of-length-le}
 use lib.Seq.{drop-cons, drop-drop, length-take-le}
 use Rattle.definition.specs.Pre.{begin, flag}
-use Rattle.definition.specs.Glue.{glued, glues}
+use Rattle.definition.specs.Runs.{grouped}
+use Rattle.definition.specs.Glue.{tokens, glued, glues}
 use Rattle.theorems.specs.Walk.{Walk, walk, named, pre-tokens, pre-token}
 use Rattle.theorems.specs.Step.{Stepped, Pre-stepped, Gluing}
 use Rattle.theorems.proofs.Lexing.Walk.{pre-tokens-cons, pre-tokens-nil, walk-fits}
-use Rattle.theorems.proofs.Lexing.Gluing.{glue-end, glue-stop}
+use Rattle.theorems.proofs.Lexing.Gluing.{made, tokens-made, glue-end, glue-stop}
 use Rattle.theorems.proofs.Lexing.Sorts.{named-some}
 
 module _ (s : List ℕ) (at : ℕ) (f : Bool) where
@@ -51,3 +52,8 @@ module _ (s : List ℕ) (at : ℕ) (f : Bool) (k e : ℕ) (g : Bool) (u : Gluing
     | yes h ↦ glue-stop s at f k e g u _ _ _ (pre-at s e g h) (n _)
     | no h ↦ glue-over (omega arith)
   ]
+
+-- At the end of the source there are no tokens.
+pub tokens-over : (f : Bool) (s : List ℕ) (at : ℕ) → length s ≤ at → tokens f (drop at s) ≡ []
+unfolding grouped
+tokens-over f s at h = tokens-made f (drop at s) ∙ ap (λ l. made (pre-tokens f l)) (drop-of-length-le s h) ∙ ap made (pre-tokens-nil f)

@@ -1,4 +1,5 @@
 -- `list` has the outcome of listing tokens.
+use mathlib.Core.Path.{refl}
 use Rattle.definition.specs.Calls.{listing-tokens}
 use Rattle.text.proofs.Cases.{cases}
 use Rattle.text.proofs.Outcomes.{call-refused}
@@ -20,6 +21,11 @@ list-spec =
     (λ c κs. search cases)
     (λ c. search cases)
     (λ c. search (tokens-short, cases))
-    (λ c. search (count-fits, cases))
     (λ c. search cases)
-    (λ c. search (tokens-whole, cases)))
+    (λ c. search cases)
+    (λ c. search cases)
+    (λ c. search cases)
+    (λ c κs. search cases)
+    (λ c. count-fits _ _ _ _ _ _ (c .before .before .before .before .before .before .before .before .before .before .refused .ensures) (c .before .before .before .before .before .before .before .before .before .if1 .left) refl (c .before .before .before .before .before .before .before .fill .ensures))
+    (λ c. search cases)
+    (λ c. tokens-whole _ _ _ _ _ _ (c .before .before .before .before .before .before .before .before .before .before .refused .ensures) (c .before .before .before .before .before .before .before .before .before .if1 .left) refl (c .before .before .before .before .before .before .before .fill .ensures) _ (c .before .before .before .before .if2 .left) (c .before .before .clear3 .ensures)))

@@ -8,11 +8,13 @@ pub next-spec : {M : Type 1} → statement M
 next-spec =
     tie.close
     (tie.spec
-    (λ c. search (step-end, cases))
     (λ c κs. search cases)
+    (λ c. search cases)
+    (λ c. search cases)
     (λ c κs. search cases)
     (λ c. search (step-settled, cases))
     (λ c κs. search (step-period, cases))
     (λ c. search (step-stepped, cases))
     (λ c κs. search (step-operator, cases))
+    (λ c. search (step-end, cases))
     (λ c. search (step-stepped, cases)))

@@ -9,24 +9,26 @@ use borrow.Author.Tests.{lt-ltb, le-ltb}
 use Rattle.definition.specs.Pre.{begin, flag}
 use Rattle.theorems.specs.Walk.{named}
 use Rattle.text.proofs.Cases.{cases}
-use Rattle.pre.specs.Scan.{from, first, pre-step}
-use Rattle.pre.specs.declared.token.Token.{Token}
+use Rattle.pre.specs.Scan.{from, first, pre-step, pre-next}
+use Rattle.pre.specs.declared.token.Token as read
 use Rattle.pre.specs.declared.PreLexer.{PreLexer}
+use Rattle.pre.specs.declared.PreNext.the-variants.{Token, End}
 use Rattle.pre.proofs.Froms.{Ends, from-fits}
 use Rattle.pre.proofs.PreLexer.next.Statement.{statement}
 use Rattle.pre.proofs.PreLexer.next.Tie as tie
 
 module _ (l : PreLexer) (s : List ℕ) where
-  ended : length s ≤ l .at → record { kind = 0; next = record { at = l .at; angle = l .angle } } ≡ pre-step l s
-  unfolding pre-step
+  ended : length s ≤ l .at → End ≡ pre-next l s
+  unfolding pre-next
   ended h = rw (le-ltb (l .at) (length s) h)
 
-  one : (t : Token) (k : ℕ) (f : Bool) → l .at < length s → t ≡ first l s → k ≡ named (t .kind) (take (t .end - l .at) (drop (l .at) s)) → f ≡ flag (l .angle) (getD s (l .at) 0)
-      → record { kind = k; next = record { at = t .end; angle = f } } ≡ pre-step l s
-  unfolding pre-step
+  one : (t : read.Token) (k : ℕ) (f : Bool) → l .at < length s → t ≡ first l s
+      → k ≡ named (t .kind) (take (t .end - l .at) (drop (l .at) s)) → f ≡ flag (l .angle) (getD s (l .at) 0)
+      → Token (record { kind = k; next = record { at = t .end; angle = f } }) ≡ pre-next l s
+  unfolding pre-step pre-next
   one t k f h e p q = rw (lt-ltb (l .at) (length s) h, ← e, p, q)
 
-module _ (s : List ℕ) (at : ℕ) (f : Bool) (t : Token) (h : at < length s) (e : t ≡ from (begin f (getD s at 0)) (getD s at 0) (at + 1) s) where
+module _ (s : List ℕ) (at : ℕ) (f : Bool) (t : read.Token) (h : at < length s) (e : t ≡ from (begin f (getD s at 0)) (getD s at 0) (at + 1) s) where
   bounds : Ends (at + 1) (length s) (t .end)
   bounds = rw e (from-fits _ _ (at + 1) s (omega arith))
 

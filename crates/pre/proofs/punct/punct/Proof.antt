@@ -11,7 +11,7 @@ use Rattle.pre.specs.Table.{entry}
 use Rattle.pre.specs.Scan.{from}
 use Rattle.pre.specs.declared.token.Token.{Token}
 use Rattle.pre.proofs.Classes.{closed, closed-is, says, closed-punct}
-use Rattle.pre.proofs.States.{begin-slash, begin-backslash, begin-punct}
+use Rattle.pre.proofs.States.{Plain, begin-slash, begin-backslash, begin-punct}
 use Rattle.pre.proofs.Froms.{token, shut, done-is}
 use Rattle.pre.proofs.punct.punct.Statement.{statement}
 use Rattle.pre.proofs.punct.punct.Tie as tie
@@ -43,9 +43,9 @@ module _ (s : List ℕ) (at b : ℕ) (f : Bool) where
   to-backslash : (r : Token) → r ≡ from (backslash alone) 0 (at + 1) s → b ≡ byte "\\" → r ≡ from (begin f b) b (at + 1) s
   to-backslash r e p = by (backslash alone) (byte "\\") r e p refl (begin-backslash f)
 
-  module _ (k : ℕ) (h : Kind.PERIOD ≤ k) (c : k ≡ entry b) (n₁ : b ≡ byte "_" → ⊥) (n₂ : b ≡ byte "/" → ⊥) (n₃ : b ≡ byte "\"" → ⊥) (n₄ : b ≡ byte "<" → ⊥) (n₅ : b ≡ byte "\\" → ⊥) where
+  module _ (k : ℕ) (h : Kind.PERIOD ≤ k) (c : k ≡ entry b) (n : Plain b) where
     begun : begin f b ≡ done k
-    begun = rw (says b k c .punct-is h) (begin-punct b k f c h n₁ n₂ n₃ n₄ n₅)
+    begun = rw (says b k c .punct-is h) (begin-punct b k f c h n)
 
     one : b < 192 → token k (at + 1) ≡ from (begin f b) b (at + 1) s
     one l = rw begun (sym (shut (done k) b (at + 1) s (closed-punct b k c h l) ∙ done-is k (at + 1) s))
