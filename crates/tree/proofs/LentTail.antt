@@ -1,8 +1,8 @@
 -- A run on the unused tail of a table, from its front, is the run on the whole table.
 use Prim.Native.Nat.{ℕ, _+_, _-_, _≤_, _<_}
-use mathlib.Core.Path.{_≡_, refl, ap, sym, _∙_, subst}
+use mathlib.Core.Path.{_≡_, ap, sym, _∙_}
 use mathlib.Core.List.{List, [], _∷_, _++_, append-nil}
-use native.Mathlib.Nat.{add-assoc, add-zero}
+use native.Mathlib.Nat.{add-assoc}
 use native.Mathlib.Omega.{arith}
 use borrow.Author.Tests.{lt-ltb, le-ltb}
 use borrow.Rule.Slice.PartMut.{putMid, post-is}
@@ -10,12 +10,13 @@ use lib.ListN.{length, take, drop, length-append, length-drop, take-append-drop}
 use lib.Seq.{length-take-le, take-all, take-length, drop-length}
 use Rattle.definition.specs.Tree.{Forest, size, Entry, Width}
 use Rattle.tree.specs.declared.Pen.{Pen}
-use Rattle.tree.specs.Machine.{events, far, numbers, written, next, Writer, writer, pen-at, run}
+use Rattle.tree.specs.Machine.{events, far, numbers, written, writer, pen-at, run}
 use Rattle.tree.specs.Tail.{tail-start, behind, at-front, rejoined}
 use Rattle.tree.specs.Writes.{Ready, Stands, within, past, entries-at}
 use Rattle.tree.proofs.Sets.{sets-right}
-use Rattle.tree.proofs.Puts.{Page, page, put, puts, Room, inside, outside, room?, next-in, next-out, written-in, written-out, length-written, length-puts, puts-far}
-use Rattle.tree.proofs.Writes.{after, writes-after}
+use Rattle.tree.proofs.Room.{Room, inside, outside, room?, next-in, next-out, written-in, written-out, length-written}
+use Rattle.tree.proofs.Puts.{Page, page, put, puts, length-puts, puts-far}
+use Rattle.tree.proofs.Writes.{writes-after}
 
 -- The place of a tail on the whole table: there is one, or the tail was too short, or there was none before.
 module _ (room n m : ℕ) where
@@ -46,14 +47,15 @@ written-right a u j e = go (room? u j)
         let r : length (a ++ u) < length a + j + Width.entry = rw (length-append a u) (omega arith) in
         written-out (a ++ u) (length a + j) e r ∙ ap (λ l. a ++ l) (sym (written-out u j e h))
 
-puts-right : (a u : List ℕ) (j : ℕ) (es : List Entry) → j ≤ length u → length a + length u < far → puts (page (a ++ u) (length a + j)) es ≡ joined a (puts (page u j) es)
+puts-right : (a u : List ℕ) (j : ℕ) (es : List Entry) → j ≤ length u → length a + length u < far
+    → puts (page (a ++ u) (length a + j)) es ≡ joined a (puts (page u j) es)
 unfolding puts
 puts-right a u j [] h b = rw (behind-in (length a + length u) (length a) j (omega arith))
 puts-right a u j (e ∷ es) h b = go (room? u j) (λ k. puts-right a (written u j e) (j + Width.entry) es k (rw (length-written u j e) b))
   where
     go : Room u j
         → (j + Width.entry ≤ length (written u j e)
-           → puts (page (a ++ written u j e) (length a + (j + Width.entry))) es ≡ joined a (puts (page (written u j e) (j + Width.entry)) es))
+        → puts (page (a ++ written u j e) (length a + (j + Width.entry))) es ≡ joined a (puts (page (written u j e) (j + Width.entry)) es))
         → puts (put (page (a ++ u) (length a + j)) e) es ≡ joined a (puts (put (page u j) e) es)
     go (inside r) ih =
         let r′ : length a + j + Width.entry ≤ length (a ++ u) = rw (length-append a u) (omega arith) in
@@ -125,10 +127,10 @@ module _ (f : Forest) (t o : List ℕ) (p : Pen) (r : Ready (writer t o p) f) (s
       ∙ ap (λ x. writer (x .table) o (pen-at (x .n) (p .depth) (p .pos + size f))) (sym (puts-tail a e))
       ∙ sym (writes-after f (writer t o p) r)
 
-  -- The same as code lends the tail.
-  pub lent-tail : (a : ℕ) (u o′ : List ℕ) (q : Pen) → a ≡ tail-start (length t) (p .n)
-      → writer u o′ q ≡ run (writer (take (length t - a) (drop a t)) o (at-front p)) (events f)
-      → writer (putMid a (length t - a) t u) o′ (rejoined (length t) (p .n) q) ≡ run (writer t o p) (events f)
-  lent-tail a u o′ q e g =
-      ap (λ l. writer l o′ (rejoined (length t) (p .n) q)) (part-back a t u (omega arith))
-      ∙ on-tail a u o′ q e (g ∙ ap (λ l. run (writer l o (at-front p)) (events f)) (part-is a t))
+  -- The same as code hands the tail on, from a to the end, with the pen v there, and goes on with the pen x.
+  pub lent-tail : (a : ℕ) (v q x : Pen) (u o′ : List ℕ) → a ≡ tail-start (length t) (p .n) → v ≡ at-front p
+      → writer u o′ q ≡ run (writer (take (length t - a) (drop a t)) o v) (events f) → x ≡ rejoined (length t) (p .n) q
+      → writer (putMid a (length t - a) t u) o′ x ≡ run (writer t o p) (events f)
+  lent-tail a v q x u o′ e i g j =
+      let h : a ≤ length t = omega arith in
+      rw (part-back a t u h, j) (on-tail a u o′ q e (g ∙ rw (part-is a t, i)))

@@ -5,10 +5,11 @@ use mathlib.Core.List.{List, [], _∷_}
 use native.Mathlib.Omega.{arith}
 use lib.ListN.{length, set, length-set}
 use lib.Seq.{sets}
-use Rattle.definition.specs.Tree.{Entry, Form, Width, entry-numbers}
-use Rattle.tree.specs.Machine.{far, Offset, numbers, fits, written, next, patched, open-entry}
+use Rattle.definition.specs.Tree.{Entry, entry-numbers}
+use Rattle.tree.specs.Machine.{far, Offset, numbers, fits, written, next, patched, node-entry, open-entry}
 use Rattle.tree.proofs.Sets.{sets-set, set-sets}
-use Rattle.tree.proofs.Puts.{Page, page, put, puts, Room, inside, outside, room?, next-in, next-out, written-in, written-out, patched-in, patched-out, length-written, length-puts, puts-far}
+use Rattle.tree.proofs.Room.{Room, inside, outside, room?, next-in, next-out, written-in, written-out, patched-in, patched-out, length-written}
+use Rattle.tree.proofs.Puts.{Page, page, put, puts, length-puts, puts-far}
 
 -- A number before the place of the next entry.
 module _ (t : List ℕ) (n j x : ℕ) where
@@ -41,7 +42,7 @@ puts-set t n j x (e ∷ es) h k =
 -- An entry whose kind and end are put in behind later entries is as one that had them from the start, room or not.
 module _ (t : List ℕ) (n k l a z : ℕ) (es : List Entry) (b : length t ≤ far) where
   abbrev shut-entry : Entry
-  shut-entry = record { form = Form.node; kind = k; level = l; start = a; end = z }
+  shut-entry = node-entry k l a z
 
   abbrev later : Page
   later = puts (put (page t n) (open-entry l a)) es
@@ -60,13 +61,13 @@ module _ (t : List ℕ) (n k l a z : ℕ) (es : List Entry) (b : length t ≤ fa
           let w : List ℕ = written t n (open-entry l a) in
           let f : written t n shut-entry ≡ set (set w (n + Offset.kind) k) (n + Offset.end) z
           = written-in t n shut-entry r ∙ put-in
-            ∙ ap (λ u. set (set u (n + Offset.kind) k) (n + Offset.end) z) (sym (written-in t n (open-entry l a) r)) in
+          ∙ ap (λ u. set (set u (n + Offset.kind) k) (n + Offset.end) z) (sym (written-in t n (open-entry l a) r)) in
           let long : length (later .table) ≡ length t = length-puts w (next t n) es ∙ length-written t n (open-entry l a) in
           let kind-in : n + Offset.kind < next t n = rw (next-in t n r) (omega arith) in
           let end-in : n + Offset.end < next t n = rw (next-in t n r) (omega arith) in
           ap (λ u. page u (later .n)) (patched-in (later .table) n k z (rw long r))
           ∙ sym
-            (ap (λ u. puts (page u (next t n)) es) f ∙ puts-set (set w (n + Offset.kind) k) (next t n) (n + Offset.end) z es end-in (omega arith)
-             ∙ ap (λ p. page (set (p .table) (n + Offset.end) z) (p .n)) (puts-set w (next t n) (n + Offset.kind) k es kind-in (omega arith)))
+          (ap (λ u. puts (page u (next t n)) es) f ∙ puts-set (set w (n + Offset.kind) k) (next t n) (n + Offset.end) z es end-in (omega arith)
+          ∙ ap (λ p. page (set (p .table) (n + Offset.end) z) (p .n)) (puts-set w (next t n) (n + Offset.kind) k es kind-in (omega arith)))
       go (outside r) =
           rw (written-out t n (open-entry l a) r, written-out t n shut-entry r, next-out t n r, puts-far t es b, patched-out t n k z r) refl

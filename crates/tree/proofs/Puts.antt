@@ -1,17 +1,16 @@
--- Entries written one after the other into a table: those that have room, all of them, or not all.
+-- Entries written one after the other into a table: all of them, or not all.
 use Prim.Native.Nat.{ℕ, suc, _+_, _*_, _≤_, _<_}
-use mathlib.Core.Path.{_≡_, refl, ap, sym, _∙_}
+use mathlib.Core.Path.{_≡_, refl, _∙_}
 use mathlib.Core.List.{List, [], _∷_, _++_}
 use native.Mathlib.Nat.{add-zero}
 use native.Mathlib.Omega.{arith}
-use native.Mathlib.Decide.{decLe}
-use lib.ListN.{length, set, length-set}
+use lib.ListN.{length}
 use lib.Seq.{sets, length-sets}
-use Rattle.definition.specs.Tree.{Entry, Form, Width, entry-numbers}
-use Rattle.tree.specs.Machine.{far, Offset, numbers, fits, written, next, patched, open-entry}
+use Rattle.definition.specs.Tree.{Entry, Width, entry-numbers}
+use Rattle.tree.specs.Machine.{far, numbers, written, next}
 use Rattle.tree.specs.Writes.{Stands, within, past}
-use Rattle.tree.proofs.Sets.{sets-set, set-sets, sets-append}
-use Rattle.tree.proofs.Steps.{fits-yes, fits-no}
+use Rattle.tree.proofs.Sets.{sets-append}
+use Rattle.tree.proofs.Room.{Room, inside, outside, room?, next-in, next-out, written-in, written-out, length-written}
 
 -- A table and the place of its next entry.
 pub record Page : Type 0 where
@@ -33,54 +32,7 @@ unfolding puts
 puts-++ p [] b = refl
 puts-++ p (e ∷ a) b = puts-++ (put p e) a b
 
--- Room or not.
-module _ (t : List ℕ) (n : ℕ) where
-  pub data Room : Type 0 where
-    inside : n + Width.entry ≤ length t → Room
-    outside : length t < n + Width.entry → Room
-
-  pub room? : Room
-  room? = elim (decLe (n + Width.entry) (length t)) [ yes h ↦ inside h | no h ↦ outside (omega arith) ]
-
-  pub next-in : n + Width.entry ≤ length t → next t n ≡ n + Width.entry
-  unfolding next
-  next-in h = rw (fits-yes t n h)
-
-  pub next-out : length t < n + Width.entry → next t n ≡ far
-  unfolding next
-  next-out h = rw (fits-no t n h)
-
-  pub written-in : (e : Entry) → n + Width.entry ≤ length t → written t n e ≡ sets t n (numbers e)
-  unfolding written
-  written-in e h = rw (fits-yes t n h)
-
-  pub written-out : (e : Entry) → length t < n + Width.entry → written t n e ≡ t
-  unfolding written
-  written-out e h = rw (fits-no t n h)
-
-  pub patched-in : (k z : ℕ) → n + Width.entry ≤ length t → patched t n k z ≡ set (set t (n + Offset.kind) k) (n + Offset.end) z
-  unfolding patched
-  patched-in k z h = rw (fits-yes t n h)
-
-  pub patched-out : (k z : ℕ) → length t < n + Width.entry → patched t n k z ≡ t
-  unfolding patched
-  patched-out k z h = rw (fits-no t n h)
-
 -- Writing keeps a table's length.
-pub length-written : (t : List ℕ) (n : ℕ) (e : Entry) → length (written t n e) ≡ length t
-length-written t n e = go (room? t n)
-  where
-    go : Room t n → length (written t n e) ≡ length t
-    go (inside h) = rw (written-in t n e h) (length-sets t n (numbers e))
-    go (outside h) = rw (written-out t n e h) refl
-
-pub length-patched : (t : List ℕ) (n k z : ℕ) → length (patched t n k z) ≡ length t
-length-patched t n k z = go (room? t n)
-  where
-    go : Room t n → length (patched t n k z) ≡ length t
-    go (inside h) = rw (patched-in t n k z h) (simp length-set)
-    go (outside h) = rw (patched-out t n k z h) refl
-
 pub length-puts : (t : List ℕ) (n : ℕ) (es : List Entry) → length (puts (page t n) es .table) ≡ length t
 unfolding puts
 length-puts t n [] = refl
@@ -128,7 +80,7 @@ puts-lost t n (e ∷ es) b s h =
   where
     go : Room t n
         → (n + Width.entry ≤ length (written t n e) → length (written t n e) < n + Width.entry + Width.entry * length es
-           → puts (page (written t n e) (n + Width.entry)) es .n ≡ far)
+        → puts (page (written t n e) (n + Width.entry)) es .n ≡ far)
         → puts (put (page t n) e) es .n ≡ far
     go (inside r) ih =
         let l : length (written t n e) ≡ length t = length-written t n e in

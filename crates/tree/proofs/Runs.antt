@@ -6,7 +6,7 @@ use lib.ListN.{length}
 use Rattle.definition.specs.Tree.{Forest, nil, leaf, node, _▹_, row}
 use Rattle.definition.specs.Tree as tree
 use Rattle.tree.specs.Machine.{Event, Open, Shut, Leaf, leaf-event, events, open-entry, Sheet, Writer, with-levels, leafed, leafs, step, run}
-use Rattle.tree.proofs.Puts.{length-written, length-patched}
+use Rattle.tree.proofs.Room.{length-written, length-patched}
 
 pub run-++ : (w : Writer) (a b : List Event) → run w (a ++ b) ≡ run (run w a) b
 unfolding run

@@ -1,18 +1,20 @@
 -- The events of a row of trees write its entries.
-use Prim.Native.Nat.{ℕ, suc, _+_, _-_, _≤_, _<_}
+use Prim.Native.Nat.{ℕ, _+_, _-_, _*_, _≤_, _<_}
 use mathlib.Core.Path.{_≡_, refl, ap, sym, _∙_, subst}
-use mathlib.Core.List.{List, [], _∷_, _++_, append-assoc, append-nil}
+use mathlib.Core.List.{List, [], _++_, append-assoc, append-nil}
 use native.Mathlib.Nat.{add-assoc, add-zero}
 use native.Mathlib.Omega.{arith}
 use borrow.Author.Tests.{lt-ltb}
-use lib.ListN.{length, getD, set, length-set}
-use lib.Seq.{set-set, getD-set-same, getD-set-other, set-getD}
-use Rattle.definition.specs.Tree.{Leaf, long, stop, Forest, nil, leaf, node, leaves, size, Entry, Form, entries}
+use lib.ListN.{length, take, drop, set, length-set}
+use lib.Seq.{sets, sets-eq, set-set, getD-set-same, getD-set-other, set-getD}
+use Rattle.definition.specs.Tree.{Leaf, long, stop, Forest, nil, leaf, node, leaves, size, Entry, Width, entries, entry-numbers}
 use Rattle.theorems.specs.Placed.{Placed}
+use Rattle.theorems.proofs.Refusals.{length-entries}
 use Rattle.tree.specs.Height.{height}
-use Rattle.tree.specs.Machine.{Open, Shut, events, open-levels, far, written, next, patched, open-entry, Writer, writer, pen-at, leafed, step, run}
-use Rattle.tree.specs.Writes.{Free, Ready, Stands, entries-at, Wrote}
-use Rattle.tree.proofs.Puts.{Page, page, put, puts, puts-++, length-written, length-puts, puts-whole, puts-lost, puts-stands}
+use Rattle.tree.specs.Machine.{Open, Shut, events, open-levels, far, leaf-entry, node-entry, open-entry, written, next, patched, pen-at, Writer, writer, leafed, step, run}
+use Rattle.tree.specs.Writes.{Free, Ready, entries-at, end-at, Wrote}
+use Rattle.tree.proofs.Room.{length-written}
+use Rattle.tree.proofs.Puts.{Page, page, put, puts, puts-++, length-puts, puts-whole, puts-lost, puts-stands}
 use Rattle.tree.proofs.Patch.{patched-later}
 use Rattle.tree.proofs.Runs.{run-node}
 
@@ -32,13 +34,13 @@ opened-free d x o h = record {
 }
 
 module _ (t o : List ℕ) (n d a : ℕ) (h : d < open-levels) where
-  open-is : step Open (writer t o (pen-at n d a)) ≡ writer (written t n (open-entry d a)) (set o d n) (pen-at (next t n) (d + 1) a)
+  opened : step Open (writer t o (pen-at n d a)) ≡ writer (written t n (open-entry d a)) (set o d n) (pen-at (next t n) (d + 1) a)
   unfolding step
-  open-is = rw (lt-ltb d open-levels h)
+  opened = rw (lt-ltb d open-levels h)
 
-  shut-is : (k x : ℕ) → Free d o → step (Shut k) (writer t (set o d x) (pen-at n (d + 1) a)) ≡ writer (patched t x k a) o (pen-at n d a)
+  shut-again : (k x : ℕ) → Free d o → step (Shut k) (writer t (set o d x) (pen-at n (d + 1) a)) ≡ writer (patched t x k a) o (pen-at n d a)
   unfolding step
-  shut-is k x c =
+  shut-again k x c =
       let m : d + 1 - 1 ≡ d = omega arith in
       let i : d < length o = omega (arith, c .long) in
       let z : set o d 0 ≡ o = ap (set o d) (sym (c .clear d (omega arith))) ∙ set-getD o d 0 in
@@ -53,29 +55,26 @@ after w f =
 module _ (t o : List ℕ) (n d : ℕ) where
   -- A leaf, and the rest of the row behind it.
   with-leaf : (x : Leaf) (f : Forest)
-      → (let e : Entry = record { form = Form.leaf; kind = x .kind; level = d; start = x .start; end = stop x } in
-         let w : Writer = writer (written t n e) o (pen-at (next t n) d (stop x)) in
-         run w (events f) ≡ after w f)
+      → (let w = writer (written t n (leaf-entry (x .kind) d (x .start) (stop x))) o (pen-at (next t n) d (stop x)) in run w (events f) ≡ after w f)
       → run (writer t o (pen-at n d (x .start))) (events (leaf x f)) ≡ after (writer t o (pen-at n d (x .start))) (leaf x f)
   unfolding run events entries puts size step leafed
   with-leaf x f ih = ih ∙ rw (add-assoc (x .start) (long x) (size f))
 
-  -- The entries of a node, its row's and those of the rest.
+  -- The entries of a node: its own, its row's and those of the rest.
   with-node : (a k : ℕ) (c f : Forest)
-      → (let e : Entry = record { form = Form.node; kind = k; level = d; start = a; end = a + size c } in
-         let q = puts (put (page t n) e) (entries (d + 1) a c) in
-         after (writer (q .table) o (pen-at (q .n) d (a + size c))) f ≡ after (writer t o (pen-at n d a)) (node k c f))
+      → (let q = puts (put (page t n) (node-entry k d a (a + size c))) (entries (d + 1) a c) in
+      after (writer (q .table) o (pen-at (q .n) d (a + size c))) f ≡ after (writer t o (pen-at n d a)) (node k c f))
   unfolding entries puts size
   with-node a k c f =
-      let e : Entry = record { form = Form.node; kind = k; level = d; start = a; end = a + size c } in
-      rw (puts-++ (put (page t n) e) (entries (d + 1) a c) (entries d (a + size c) f), add-assoc a (size c) (size f))
+      rw
+      (puts-++ (put (page t n) (node-entry k d a (a + size c))) (entries (d + 1) a c) (entries d (a + size c) f), add-assoc a (size c) (size f))
 
 run-is : (f : Forest) (ls : List Leaf) (t o : List ℕ) (n d a : ℕ) → d + height f ≤ open-levels → Placed a (leaves f ++ ls) → Free d o → length t ≤ far
     → run (writer t o (pen-at n d a)) (events f) ≡ after (writer t o (pen-at n d a)) f
 unfolding run events entries puts size height leaves Placed
 run-is nil ls t o n d a low p c b = rw (add-zero a)
 run-is (leaf x f) ls t o n d a low p c b =
-    let e : Entry = record { form = Form.leaf; kind = x .kind; level = d; start = x .start; end = stop x } in
+    let e : Entry = leaf-entry (x .kind) d (x .start) (stop x) in
     let q : Placed (stop x) (leaves f ++ ls) = rw (p .0) (p .2) in
     subst
     (λ y. run (writer t o (pen-at n d y)) (events (leaf x f)) ≡ after (writer t o (pen-at n d y)) (leaf x f))
@@ -85,7 +84,7 @@ run-is (node k g f) ls t o n d a low p c b =
     let h : d < open-levels = omega arith in
     let z : ℕ = a + size g in
     let es : List Entry = entries (d + 1) a g in
-    let e : Entry = record { form = Form.node; kind = k; level = d; start = a; end = z } in
+    let e : Entry = node-entry k d a z in
     let w : List ℕ = written t n (open-entry d a) in
     let q : Page = puts (put (page t n) (open-entry d a)) es in
     let u : Page = puts (put (page t n) e) es in
@@ -94,9 +93,9 @@ run-is (node k g f) ls t o n d a low p c b =
     let inner : run (writer w (set o d n) (pen-at (next t n) (d + 1) a)) (events g) ≡ writer (q .table) (set o d n) (pen-at (q .n) (d + 1) z)
     = run-is g (leaves f ++ ls) w (set o d n) (next t n) (d + 1) a (omega arith) pg (opened-free d n o c) (rw (length-written t n (open-entry d a)) b) in
     let shut : step (Shut k) (writer (q .table) (set o d n) (pen-at (q .n) (d + 1) z)) ≡ writer (u .table) o (pen-at (u .n) d z)
-    = shut-is (q .table) o (q .n) d z h k n c ∙ ap (λ y. writer (y .table) o (pen-at (y .n) d z)) (patched-later t n k d a z es b) in
+    = shut-again (q .table) o (q .n) d z h k n c ∙ ap (λ y. writer (y .table) o (pen-at (y .n) d z)) (patched-later t n k d a z es b) in
     run-node (writer t o (pen-at n d a)) k g f
-    ∙ ap (λ x. run (step (Shut k) (run x (events g))) (events f)) (open-is t o n d a h)
+    ∙ ap (λ x. run (step (Shut k) (run x (events g))) (events f)) (opened t o n d a h)
     ∙ ap (λ x. run (step (Shut k) x) (events f)) inner
     ∙ ap (λ x. run x (events f)) shut
     ∙ run-is f ls (u .table) o (u .n) d z (omega arith) (placed-past a g (leaves f ++ ls) pg) c (rw lu b)
@@ -105,10 +104,18 @@ run-is (node k g f) ls t o n d a low p c b =
 -- The theorem.
 module _ (f : Forest) (w : Writer) (r : Ready w f) where
   pub writes-after : run w (events f) ≡ after w f
-  writes-after = run-is f [] (w .table) (w .levels) (w .pen .n) (w .pen .depth) (w .pen .pos) (r .low) (rw append-nil (r .placed)) (r .free) (omega (arith, r .short))
+  writes-after =
+      run-is f [] (w .table) (w .levels) (w .pen .n) (w .pen .depth) (w .pen .pos) (r .low) (rw append-nil (r .placed)) (r .free) (omega (arith, r .short))
 
   abbrev es : List Entry
   es = entries-at w f
+
+  after-whole : (h : end-at w f ≤ length (w .table))
+      → (after w f .table ≡ take (w .pen .n) (w .table) ++ entry-numbers es ++ drop (end-at w f) (w .table)) × (after w f .pen .n ≡ end-at w f)
+  after-whole h =
+      let e : puts (page (w .table) (w .pen .n)) es ≡ page (sets (w .table) (w .pen .n) (entry-numbers es)) (end-at w f) = puts-whole (w .table) (w .pen .n) es h in
+      let l : length (entry-numbers es) ≡ Width.entry * length es = length-entries es in
+      (ap (λ q. q .table) e ∙ sets-eq (entry-numbers es) (w .table) (w .pen .n) (omega arith) ∙ rw l, ap (λ q. q .n) e)
 
   after-wrote : Wrote f w (after w f)
   after-wrote = record {
@@ -117,8 +124,8 @@ module _ (f : Forest) (w : Writer) (r : Ready w f) where
     pos-is = refl;
     long-kept = length-puts (w .table) (w .pen .n) es;
     stands = puts-stands (w .table) (w .pen .n) es;
-    whole = λ h. let e = puts-whole (w .table) (w .pen .n) es h in (ap (λ q. q .table) e, ap (λ q. q .n) e);
-    lost = λ s h. puts-lost (w .table) (w .pen .n) es (omega (arith, r .short)) s h;
+    whole = after-whole;
+    lost = puts-lost (w .table) (w .pen .n) es (omega (arith, r .short));
   }
 
   pub writes : Wrote f w (run w (events f))

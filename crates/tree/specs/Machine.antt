@@ -40,17 +40,29 @@ Offset = record { kind = 1; level = 2; start = 3; end = 4 }
 abbrev pub numbers : Entry → List ℕ  -- The numbers of one entry.
 numbers e = entry-numbers (e ∷ [])
 
+-- The entries that the writer makes.
+abbrev pub leaf-entry : ℕ → ℕ → ℕ → ℕ → Entry
+leaf-entry kind level start end = record { form = Form.leaf; kind = kind; level = level; start = start; end = end }
+
+abbrev pub node-entry : ℕ → ℕ → ℕ → ℕ → Entry
+node-entry kind level start end = record { form = Form.node; kind = kind; level = level; start = start; end = end }
+
+abbrev pub open-entry : ℕ → ℕ → Entry  -- A node that begins there; its kind and its end are put in when it ends.
+open-entry level start = node-entry 0 level start start
+
 -- Whether a table has room for an entry at n.
 unfoldable pub fits : List ℕ → ℕ → Bool
 fits t n = leb (n + Width.entry) (length t)
 
--- The table with an entry at n, if it has room, and the place of the next.
+-- The table with an entry at n, if it has room,
 unfoldable pub written : List ℕ → ℕ → Entry → List ℕ
 written t n e = if fits t n then sets t n (numbers e) else t
 
+-- and the place of the next entry.
 unfoldable pub next : List ℕ → ℕ → ℕ
 next t n = if fits t n then n + Width.entry else far
 
+-- An entry took the table t and the place n to t′ and n′.
 pub record Puts (e : Entry) (t : List ℕ) (n : ℕ) (t′ : List ℕ) (n′ : ℕ) : Type 0 where
   pub table-is : t′ ≡ written t n e
   pub next-is : n′ ≡ next t n
@@ -59,7 +71,7 @@ pub record Puts (e : Entry) (t : List ℕ) (n : ℕ) (t′ : List ℕ) (n′ : �
 unfoldable pub patched : List ℕ → ℕ → ℕ → ℕ → List ℕ
 patched t n kind end = if fits t n then set (set t (n + Offset.kind) kind) (n + Offset.end) end else t
 
--- The open levels hold, for each open node, the place of its entry; a level that is not open holds 0.
+-- The open levels hold the place of each open node's entry; a level that is not open holds 0.
 abbrev pub level-at : List ℕ → ℕ → ℕ
 level-at levels d = if ltb d open-levels then getD levels d 0 else 0
 
@@ -69,7 +81,10 @@ set-level levels d n = if ltb d open-levels then set levels d n else levels
 abbrev pub one-deeper : ℕ → ℕ
 one-deeper d = if ltb d open-levels then d + 1 else d
 
--- The table, and the pen that writes into it.
+abbrev pub pen-at : ℕ → ℕ → ℕ → Pen
+pen-at n depth pos = record { n = n; depth = depth; pos = pos }
+
+-- A table, and the pen that writes into it.
 pub record Sheet : Type 0 where
   pub table : List ℕ
   pub pen : Pen
@@ -77,7 +92,7 @@ pub record Sheet : Type 0 where
 abbrev pub sheet : List ℕ → Pen → Sheet
 sheet t p = record { table = t; pen = p }
 
--- The same with the open levels.
+-- The same, and the open levels.
 pub record Writer : Type 0 where
   pub table : List ℕ
   pub levels : List ℕ
@@ -89,19 +104,17 @@ writer t o p = record { table = t; levels = o; pen = p }
 abbrev pub with-levels : List ℕ → Sheet → Writer
 with-levels o s = writer (s .table) o (s .pen)
 
-abbrev pub pen-at : ℕ → ℕ → ℕ → Pen
-pen-at n d a = record { n = n; depth = d; pos = a }
-
--- A leaf needs no open levels.
+-- A leaf leaves the open levels alone.
 unfoldable pub leafed : ℕ → ℕ → ℕ → Sheet → Sheet
 leafed kind start end s =
     let p = s .pen in
-    let e : Entry = record { form = Form.leaf; kind = kind; level = p .depth; start = start; end = end } in
-    sheet (written (s .table) (p .n) e) (pen-at (next (s .table) (p .n)) (p .depth) end)
+    sheet (written (s .table) (p .n) (leaf-entry kind (p .depth) start end)) (pen-at (next (s .table) (p .n)) (p .depth) end)
 
-abbrev pub open-entry : ℕ → ℕ → Entry  -- A node that begins at an offset; it is patched when it ends.
-open-entry level a = record { form = Form.node; kind = 0; level = level; start = a; end = a }
+unfoldable pub leafs : Sheet → List tree.Leaf → Sheet  -- A row of leaves.
+leafs s [] = s
+leafs s (t ∷ ts) = leafs (leafed (t .kind) (t .start) (stop t) s) ts
 
+-- One event.
 unfoldable pub step : Event → Writer → Writer
 step Open w =
     let p = w .pen in
@@ -115,11 +128,7 @@ step (Shut k) w =
     writer (patched (w .table) (level-at (w .levels) d) k (p .pos)) (set-level (w .levels) d 0) (pen-at (p .n) d (p .pos))
 step (Leaf k a b) w = with-levels (w .levels) (leafed k a b (sheet (w .table) (w .pen)))
 
+-- A row of events.
 unfoldable pub run : Writer → List Event → Writer
 run w [] = w
 run w (e ∷ es) = run (step e w) es
-
--- A row of leaves, without the levels.
-unfoldable pub leafs : Sheet → List tree.Leaf → Sheet
-leafs s [] = s
-leafs s (t ∷ ts) = leafs (leafed (t .kind) (t .start) (stop t) s) ts

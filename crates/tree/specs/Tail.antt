@@ -1,6 +1,5 @@
 -- The unused tail of a table, handed on: where it begins, and where its places are on the whole table.
 use Prim.Native.Nat.{ℕ, _+_, _-_, min}
-use mathlib.Core.Bool.{_||_}
 use lib.Dec.{ltb}
 use Rattle.definition.specs.Text.{if_then_else_}
 use Rattle.tree.specs.declared.Pen.{Pen}

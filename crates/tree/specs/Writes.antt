@@ -1,9 +1,8 @@
 -- When the events of a row of trees write its entries, and what they leave.
 use Prim.Native.Nat.{ℕ, _+_, _*_, _≤_, _<_}
 use mathlib.Core.Path.{_≡_}
-use mathlib.Core.List.{List}
-use lib.ListN.{length, getD}
-use lib.Seq.{sets}
+use mathlib.Core.List.{List, _++_}
+use lib.ListN.{length, take, drop, getD}
 use Rattle.definition.specs.Tree.{Forest, leaves, size, Entry, Width, entries, entry-numbers}
 use Rattle.theorems.specs.Placed.{Placed}
 use Rattle.tree.specs.Height.{height}
@@ -14,7 +13,7 @@ pub record Free (d : ℕ) (levels : List ℕ) : Type 0 where
   pub long : length levels ≡ open-levels
   pub clear : (i : ℕ) → d ≤ i → getD levels i 0 ≡ 0
 
--- There are enough levels, the leaves follow one another from where the pen stands, and the table is not endless.
+-- There are levels enough, the leaves follow one another from where the pen stands, no level below is in use, and the table ends before the far place.
 pub record Ready (w : Writer) (f : Forest) : Type 0 where
   pub low : w .pen .depth + height f ≤ open-levels
   pub placed : Placed (w .pen .pos) (leaves f)
@@ -26,11 +25,11 @@ pub data Stands (t : List ℕ) (n : ℕ) : Type 0 where
   within : n ≤ length t → Stands t n
   past : n ≡ far → Stands t n
 
--- The entries that a row of trees adds where the pen stands, and how many numbers they are.
+-- The entries that a row of trees adds where the pen stands,
 abbrev pub entries-at : Writer → Forest → List Entry
 entries-at w f = entries (w .pen .depth) (w .pen .pos) f
 
-abbrev pub end-at : Writer → Forest → ℕ  -- Where they end.
+abbrev pub end-at : Writer → Forest → ℕ  -- and where they end, if they fit.
 end-at w f = w .pen .n + Width.entry * length (entries-at w f)
 
 -- The events of f took w to w′.
@@ -40,7 +39,8 @@ pub record Wrote (f : Forest) (w w′ : Writer) : Type 0 where
   pub pos-is : w′ .pen .pos ≡ w .pen .pos + size f
   pub long-kept : length (w′ .table) ≡ length (w .table)
   pub stands : Stands (w .table) (w .pen .n) → Stands (w′ .table) (w′ .pen .n)
-  -- All entries fit, and the table has their numbers from the pen's place on and is else as it was;
-  pub whole : end-at w f ≤ length (w .table) → (w′ .table ≡ sets (w .table) (w .pen .n) (entry-numbers (entries-at w f))) × (w′ .pen .n ≡ end-at w f)
-  -- or they don't, and the place is the far one.
+  -- All entries fit: the table has their numbers from the pen's place on, and is else as it was.
+  pub whole : end-at w f ≤ length (w .table)
+      → (w′ .table ≡ take (w .pen .n) (w .table) ++ entry-numbers (entries-at w f) ++ drop (end-at w f) (w .table)) × (w′ .pen .n ≡ end-at w f)
+  -- Or they don't, and the place is the far one.
   pub lost : Stands (w .table) (w .pen .n) → length (w .table) < end-at w f → w′ .pen .n ≡ far

@@ -1,6 +1,8 @@
 // The entries of a table: written as far as it goes.
 ghost use mathlib.Core.Path.{_≡_};
-ghost use Rattle.tree.specs.Machine.{fits, Puts, patched};
+ghost use Prim.Native.Nat.{_-_};
+ghost use lib.ListN.{length};
+ghost use Rattle.tree.specs.Machine.{Puts, patched};
 
 // The forms of an entry.
 pub const LEAF: u32 = 0;
@@ -8,7 +10,7 @@ pub const LEAF: u32 = 0;
 pub const NODE: u32 = 1;
 
 // The kind of a node that is still open.
-pub const NO_KIND: u32 = 0;
+pub const OPEN_KIND: u32 = 0;
 
 // How many numbers an entry has, and where each stands behind the first, its form.
 const WIDTH: usize = 5;
@@ -24,21 +26,29 @@ const END: usize = 4;
 // The place of the next entry once one did not fit.
 pub const FAR: usize = 18_446_744_073_709_551_615;
 
-// Whether the table has room for an entry at n.
-fn has_room(table: &[u32], n: usize) -> bool
-    ensures { λ r. ⌜ r ≡ fits (now (table .entry)) n ⌝ }
+// How many numbers the table has from n on.
+fn rest(table: &[u32], n: usize) -> usize
+    ensures { λ r. ⌜ r ≡ length (now (table .entry)) - n ⌝ }
 {
     if table.len() < n {
-        return false;
+        return 0;
     }
-    WIDTH <= table.len() - n
+    table.len() - n
 }
 
 // Writes an entry at n, if it has room, and gives the place of the next.
-pub fn put(table: &mut [u32], n: usize, form: u32, kind: u32, level: u32, start: u32, end: u32) -> usize
+pub fn put(
+    table: &mut [u32],
+    n: usize,
+    form: u32,
+    kind: u32,
+    level: u32,
+    start: u32,
+    end: u32,
+) -> usize
     ensures { λ r. ⌜ Puts (record { form = form; kind = kind; level = level; start = start; end = end }) (now (table .entry)) n (now (table .exit)) r ⌝ }
 {
-    if has_room(table, n) {
+    if WIDTH <= rest(table, n) {
         table[n] = form;
         table[n + KIND] = kind;
         table[n + LEVEL] = level;
@@ -50,11 +60,11 @@ pub fn put(table: &mut [u32], n: usize, form: u32, kind: u32, level: u32, start:
 }
 
 // Puts the kind and the end of the entry at n in, if it had room.
-pub fn patch(table: &mut [u32], n: usize, kind: u32, end: u32)
-    ensures { λ _. ⌜ now (table .exit) ≡ patched (now (table .entry)) n kind end ⌝ }
+pub fn patch(table: &mut [u32], n: usize, kind: u32, pos: u32)
+    ensures { λ _. ⌜ now (table .exit) ≡ patched (now (table .entry)) n kind pos ⌝ }
 {
-    if has_room(table, n) {
+    if WIDTH <= rest(table, n) {
         table[n + KIND] = kind;
-        table[n + END] = end;
+        table[n + END] = pos;
     }
 }

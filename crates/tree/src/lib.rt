@@ -2,6 +2,7 @@
 pub mod entry;
 pub mod level;
 pub mod tail;
+
 use crate::level::OPEN_LEVELS;
 ghost use mathlib.Core.Path.{_≡_};
 ghost use Rattle.tree.specs.Machine.{sheet, leafed, writer, pen-at, step, Open, Shut};
@@ -42,11 +43,20 @@ impl Pen {
 pub fn start_node(table: &mut [u32], levels: &mut [usize; OPEN_LEVELS], pen: Pen) -> Pen
     ensures { λ r. ⌜ writer (now (table .exit)) (now (levels .exit)) r ≡ step Open (writer (now (table .entry)) (now (levels .entry)) pen) ⌝ }
 {
-    let n = entry::put(table, pen.n, entry::NODE, entry::NO_KIND, pen.depth, pen.pos, pen.pos);
+    let depth = level::deeper(pen.depth);
+    let n = entry::put(
+        table,
+        pen.n,
+        entry::NODE,
+        entry::OPEN_KIND,
+        pen.depth,
+        pen.pos,
+        pen.pos,
+    );
     level::put(levels, pen.depth, pen.n);
     Pen {
         n,
-        depth: level::deeper(pen.depth),
+        depth,
         pos: pen.pos,
     }
 }

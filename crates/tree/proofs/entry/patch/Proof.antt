@@ -2,7 +2,7 @@
 use native.Mathlib.Omega.{arith}
 use lib.ListN.{length-set}
 use Rattle.text.proofs.Cases.{cases}
-use Rattle.tree.proofs.Steps.{room, patches, patches-nothing}
+use Rattle.tree.proofs.Steps.{patch-in, patch-out}
 use Rattle.tree.proofs.entry.patch.Statement.{statement}
 use Rattle.tree.proofs.entry.patch.Tie as tie
 
@@ -11,13 +11,13 @@ patch-spec =
     tie.close
     (tie.spec
     (λ c κs. search cases)
-    (λ c. let h = room _ _ _ (c .before .has-room .ensures) (c .if1 .taken) in search cases)
-    (λ c. let h = room _ _ _ (c .before .has-room .ensures) (c .if1 .taken) in search cases)
-    (λ c. let h = room _ _ _ (c .before .has-room .ensures) (c .if1 .taken) in search cases)
-    (λ c. let h = room _ _ _ (c .before .has-room .ensures) (c .if1 .taken) in search cases)
-    (λ c. let h = room _ _ _ (c .before .has-room .ensures) (c .if1 .taken) in search cases)
-    (λ c. simp length-set (omega (arith, room _ _ _ (c .before .has-room .ensures) (c .if1 .taken))))
     (λ c. search cases)
-    (λ c. search (patches, cases))
     (λ c. search cases)
-    (λ c. search (patches-nothing, cases)))
+    (λ c. search cases)
+    (λ c. search cases)
+    (λ c. search cases)
+    (λ c. simp length-set (omega arith))
+    (λ c. search cases)
+    (λ c. search (patch-in, cases))
+    (λ c. search cases)
+    (λ c. search (patch-out, cases)))
