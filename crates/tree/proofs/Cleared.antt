@@ -9,20 +9,23 @@ use Rattle.definition.specs.Tree.{Forest, Entry, entry-numbers}
 use Rattle.definition.specs.Calls.{padded}
 use Rattle.theorems.proofs.Refusals.{length-entries}
 use Rattle.text.proofs.Tables.{zeros, written-padded}
-use Rattle.tree.specs.Machine.{events, open-levels, far, Writer, run}
-use Rattle.tree.specs.Writes.{Free, Ready, within, entries-at, end-at}
+use Rattle.tree.specs.Machine.{events, open-levels, far, pen-at, Writer, writer, run}
+use Rattle.tree.specs.Writes.{Free, within, Standing, Ready, entries-at, end-at}
 use Rattle.tree.proofs.Puts.{puts-whole}
 use Rattle.tree.proofs.Writes.{writes-after, writes}
 
 -- No level is open at first.
-pub all-free : (d : ℕ) → Free d (zeros open-levels)
-all-free d = record { long = length-replicate {A = ℕ} open-levels 0; clear = λ i h. zero-at i }
+first-free : Free 0 (zeros open-levels)
+first-free = record { long = length-replicate {A = ℕ} open-levels 0; clear = λ i h. zero-at i }
   where
     zero-at : (i : ℕ) → getD (zeros open-levels) i 0 ≡ 0
     zero-at i = elim (decLt i open-levels) [
       | yes h ↦ getD-replicate open-levels i 0 0 h
       | no h ↦ List·getD-eq-default (zeros open-levels) 0 {n = i} (rw (length-replicate {A = ℕ} open-levels 0) (omega arith))
     ]
+
+pub first-standing : (t : List ℕ) → length t < far → Standing (writer t (zeros open-levels) (pen-at 0 0 0))
+first-standing t h = record { free = first-free; stands = within (omega arith); short = h }
 
 module _ (f : Forest) (w : Writer) (r : Ready w f) (room : ℕ) (cleared : w .table ≡ zeros room) (front : w .pen .n ≡ 0) where
   abbrev es : List Entry
@@ -43,4 +46,4 @@ module _ (f : Forest) (w : Writer) (r : Ready w f) (room : ℕ) (cleared : w .ta
       )
 
   pub cleared-lost : room < length (entry-numbers es) → run w (events f) .pen .n ≡ far
-  cleared-lost h = writes f w r .lost (within (omega arith)) (omega (arith, many, long))
+  cleared-lost h = writes f w r .lost (omega (arith, many, long))

@@ -104,20 +104,24 @@ part-back : (a : ℕ) (t u : List ℕ) → a ≤ length t → putMid a (length t
 part-back a t u h =
     ap (λ l. take a t ++ (u ++ l)) (post-is a (length t) t h ∙ drop-length t) ∙ ap (λ l. take a t ++ l) (append-nil u)
 
-module _ (f : Forest) (t o : List ℕ) (p : Pen) (r : Ready (writer t o p) f) (s : Stands t (p .n)) where
+module _ (f : Forest) (t o : List ℕ) (p : Pen) (r : Ready (writer t o p) f) where
   abbrev es : List Entry
   es = entries-at (writer t o p) f
 
   puts-tail : (a : ℕ) → a ≡ tail-start (length t) (p .n) → puts (page t (p .n)) es ≡ from-tail t (p .n) es a
-  puts-tail a e = go s
+  puts-tail a e = go (r .standing .stands)
     where
       go : Stands t (p .n) → puts (page t (p .n)) es ≡ from-tail t (p .n) es a
-      go (within h) = let k : a ≡ p .n = omega arith in rw k (tail-within t (p .n) es (r .short) h)
-      go (past h) = let k : a ≡ length t = omega (arith, r .short) in rw k (tail-past t (p .n) es (r .short) h)
+      go (within h) = let k : a ≡ p .n = omega arith in rw k (tail-within t (p .n) es (r .standing .short) h)
+      go (past h) = let k : a ≡ length t = omega (arith, r .standing .short) in rw k (tail-past t (p .n) es (r .standing .short) h)
 
   -- A run on the tail is ready where the run on the whole table is.
   pub tail-ready : (a : ℕ) → Ready (writer (drop a t) o (at-front p)) f
-  tail-ready a = record { low = r .low; placed = r .placed; free = r .free; short = omega (arith, r .short, length-drop a t) }
+  tail-ready a = record {
+    standing = record { free = r .standing .free; stands = within (omega arith); short = omega (arith, r .standing .short, length-drop a t) };
+    low = r .low;
+    placed = r .placed;
+  }
 
   pub on-tail : (a : ℕ) (u o′ : List ℕ) (q : Pen) → a ≡ tail-start (length t) (p .n)
       → writer u o′ q ≡ run (writer (drop a t) o (at-front p)) (events f)

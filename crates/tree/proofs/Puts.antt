@@ -47,14 +47,17 @@ puts-far t (e ∷ es) h =
     rw (written-out t far e r, next-out t far r) (puts-far t es h)
 
 -- The place of the next entry stays in the table, or goes to the far place for good.
-pub puts-stands : (t : List ℕ) (n : ℕ) (es : List Entry) → Stands t n → Stands (puts (page t n) es .table) (puts (page t n) es .n)
-unfolding puts
-puts-stands t n [] s = s
-puts-stands t n (e ∷ es) s = puts-stands (written t n e) (next t n) es (go (room? t n))
+pub next-stands : (t : List ℕ) (n : ℕ) (e : Entry) → Stands (written t n e) (next t n)
+next-stands t n e = go (room? t n)
   where
     go : Room t n → Stands (written t n e) (next t n)
     go (inside r) = within (rw (next-in t n r, length-written t n e) r)
     go (outside r) = past (next-out t n r)
+
+pub puts-stands : (t : List ℕ) (n : ℕ) (es : List Entry) → Stands t n → Stands (puts (page t n) es .table) (puts (page t n) es .n)
+unfolding puts
+puts-stands t n [] s = s
+puts-stands t n (e ∷ es) s = puts-stands (written t n e) (next t n) es (next-stands t n e)
 
 -- All entries fit, and their numbers stand there in a row;
 pub puts-whole : (t : List ℕ) (n : ℕ) (es : List Entry) → n + Width.entry * length es ≤ length t

@@ -31,6 +31,14 @@ unfolding run events
 run-node w k c f = run-++ (step Open w) (events c) (Shut k ∷ events f)
 
 -- Leaves: the open levels stay as they are.
+pub leaf-step : (k a b : ℕ) (s s′ : Sheet) (o : List ℕ) → s′ ≡ leafed k a b s → with-levels o s′ ≡ step (Leaf k a b) (with-levels o s)
+unfolding step
+leaf-step k a b s s′ o e = ap (with-levels o) e
+
+pub run-leaf : (w : Writer) (t : tree.Leaf) (f : Forest) → run w (events (leaf t f)) ≡ run (step (leaf-event t) w) (events f)
+unfolding run events
+run-leaf w t f = refl
+
 pub run-row : (o : List ℕ) (s : Sheet) (ts : List tree.Leaf) → run (with-levels o s) (events (row ts)) ≡ with-levels o (leafs s ts)
 unfolding run events row step leafs
 run-row o s [] = refl

@@ -13,17 +13,22 @@ pub record Free (d : ℕ) (levels : List ℕ) : Type 0 where
   pub long : length levels ≡ open-levels
   pub clear : (i : ℕ) → d ≤ i → getD levels i 0 ≡ 0
 
--- There are levels enough, the leaves follow one another from where the pen stands, no level below is in use, and the table ends before the far place.
-pub record Ready (w : Writer) (f : Forest) : Type 0 where
-  pub low : w .pen .depth + height f ≤ open-levels
-  pub placed : Placed (w .pen .pos) (leaves f)
-  pub free : Free (w .pen .depth) (w .levels)
-  pub short : length (w .table) < far
-
--- The place of the next entry is in the table or at its end, or an entry did not fit.
+-- The place of the next entry is in the table or at its end, or it is the far one.
 pub data Stands (t : List ℕ) (n : ℕ) : Type 0 where
   within : n ≤ length t → Stands t n
   past : n ≡ far → Stands t n
+
+-- A writer at work: no level from its depth on is open, its place is one of the table, and the table ends before the far place.
+pub record Standing (w : Writer) : Type 0 where
+  pub free : Free (w .pen .depth) (w .levels)
+  pub stands : Stands (w .table) (w .pen .n)
+  pub short : length (w .table) < far
+
+-- It can write a row of trees: there are levels enough, and the leaves follow one another from where the pen stands.
+pub record Ready (w : Writer) (f : Forest) : Type 0 where
+  pub standing : Standing w
+  pub low : w .pen .depth + height f ≤ open-levels
+  pub placed : Placed (w .pen .pos) (leaves f)
 
 -- The entries that a row of trees adds where the pen stands,
 abbrev pub entries-at : Writer → Forest → List Entry
@@ -38,9 +43,9 @@ pub record Wrote (f : Forest) (w w′ : Writer) : Type 0 where
   pub depth-kept : w′ .pen .depth ≡ w .pen .depth
   pub pos-is : w′ .pen .pos ≡ w .pen .pos + size f
   pub long-kept : length (w′ .table) ≡ length (w .table)
-  pub stands : Stands (w .table) (w .pen .n) → Stands (w′ .table) (w′ .pen .n)
+  pub standing : Standing w′
   -- All entries fit: the table has their numbers from the pen's place on, and is else as it was.
   pub whole : end-at w f ≤ length (w .table)
       → (w′ .table ≡ take (w .pen .n) (w .table) ++ entry-numbers (entries-at w f) ++ drop (end-at w f) (w .table)) × (w′ .pen .n ≡ end-at w f)
   -- Or they don't, and the place is the far one.
-  pub lost : Stands (w .table) (w .pen .n) → length (w .table) < end-at w f → w′ .pen .n ≡ far
+  pub lost : length (w .table) < end-at w f → w′ .pen .n ≡ far

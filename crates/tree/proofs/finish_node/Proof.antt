@@ -5,4 +5,12 @@ use Rattle.tree.proofs.finish_node.Statement.{statement}
 use Rattle.tree.proofs.finish_node.Tie as tie
 
 pub finish-node-spec : {M : Type 1} → statement M
-finish-node-spec = tie.close (tie.spec (λ c κs. search cases) (λ c κs. search cases) (λ c κs. search cases) (λ c κs. search cases) (λ c. search cases) (λ c. search (finish-is, cases)))
+finish-node-spec =
+    tie.close
+    (tie.spec
+    (λ c κs. search cases)
+    (λ c κs. search cases)
+    (λ c κs. search cases)
+    (λ c κs. search cases)
+    (λ c. search cases)
+    (λ c. search (finish-is, cases)))

@@ -5,4 +5,11 @@ use Rattle.tree.proofs.start_node.Statement.{statement}
 use Rattle.tree.proofs.start_node.Tie as tie
 
 pub start-node-spec : {M : Type 1} → statement M
-start-node-spec = tie.close (tie.spec (λ c κs. search cases) (λ c κs. search cases) (λ c κs. search cases) (λ c. search cases) (λ c. search (start-is, cases)))
+start-node-spec =
+    tie.close
+    (tie.spec
+    (λ c κs. search cases)
+    (λ c κs. search cases)
+    (λ c κs. search cases)
+    (λ c. search cases)
+    (λ c. search (start-is, cases)))
