@@ -47,8 +47,12 @@ leaf-entry kind level start end = record { form = Form.leaf; kind = kind; level 
 abbrev pub node-entry : ℕ → ℕ → ℕ → ℕ → Entry
 node-entry kind level start end = record { form = Form.node; kind = kind; level = level; start = start; end = end }
 
-abbrev pub open-entry : ℕ → ℕ → Entry  -- A node that begins there; its kind and its end are put in when it ends.
-open-entry level start = node-entry 0 level start start
+-- A node that begins there; its kind and its end are put in when it ends.
+abbrev pub open-kind : ℕ
+open-kind = 0
+
+abbrev pub open-entry : ℕ → ℕ → Entry
+open-entry level start = node-entry open-kind level start start
 
 -- Whether a table has room for an entry at n.
 unfoldable pub fits : List ℕ → ℕ → Bool

@@ -7,7 +7,7 @@ ghost use Rattle.tree.specs.Machine.{open-levels, level-at, set-level, o
 // 256 nested PP_CONCAT, a body, a directive, ROOT, and one to spare.
 pub const OPEN_LEVELS: usize = 260;
 
-// No node is open.
+// All 0 at first: no node is open.
 pub fn levels() -> [usize; OPEN_LEVELS]
     ensures { λ r. ⌜ r ≡ replicate open-levels 0 ⌝ }
 {
