@@ -1,0 +1,10 @@
+pub mod Heights
+pub mod Sets
+pub mod Room
+pub mod Puts
+pub mod Patch
+pub mod Steps
+pub mod Runs
+pub mod Writes
+pub mod LentTail
+pub mod Cleared

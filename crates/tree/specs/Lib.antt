@@ -1,0 +1,4 @@
+pub mod Machine
+pub mod Height
+pub mod Tail
+pub mod Writes
