@@ -1,6 +1,6 @@
 /* Prints the tokens of a file: kind, start, end and the text.
  *
- *     cc -O2 compare/host.c target/staticlib/libshader_reader.a -o target/host && target/host FILE
+ *     cc -O2 -Iinclude compare/host.c target/staticlib/libshader_reader.a -o target/host && target/host FILE
  */
 #include <stdio.h>
 #include <stdlib.h>

@@ -1,5 +1,5 @@
 //! The exports of the static library, as a Rust host declares them. A slice is passed as a pointer
-//! and a length, as shader_reader.h says.
+//! and a length, as include/shader_reader.h says.
 
 #[repr(C)]
 #[derive(Debug, Clone, Copy, PartialEq, Eq)]
