@@ -4,7 +4,7 @@ use native.Mathlib.Omega.{arith}
 use native.Mathlib.Nat.{add-assoc, add-zero}
 use native.Mathlib.Numerals.{add-one}
 use mathlib.Core.Path.{_≡_, refl, sym, ap, _∙_}
-use mathlib.Core.Bool.{Bool, true, false, _&&_, and-false, false≢true}
+use mathlib.Core.Bool.{Bool, true, false, _&&_, false≢true, and-eq-true-iff}
 use mathlib.Core.List.{List, []}
 use borrow.Author.Tests.{leb-true, le-leb, lt-leb, ltb-true, lt-ltb, eqb-true, eqb-false, eq-eqb, ne-eqb}
 use lib.Dec.{eqb, leb, ltb}
@@ -56,11 +56,6 @@ module _ (s : List ℕ) (at : ℕ) where
   unfolding eight-low
   too-few h = rw (lt-leb (at + 8) (length s) h)
 
--- What may be passed over.
-and-true : (a b : Bool) → (a && b) ≡ true → (a ≡ true) × (b ≡ true)
-and-true true b e = (refl, e)
-and-true false b e = absurd (false≢true e)
-
 -- ASCII is one byte a character.
 one-low : (src : List ℕ) (i : ℕ) → i < length src → getD src i 0 < 128 → left [] (drop i src) ≡ left [] (drop (i + 1) src)
 unfolding after follow-range forms
@@ -70,7 +65,7 @@ lows : (src : List ℕ) (n i : ℕ) → i + n ≤ length src → low-from n i sr
 unfolding low-from
 lows src zero i l e = rw (add-zero i) refl
 lows src (suc n) i l e =
-    let h = and-true (ltb (getD src i 0) 128) (low-from n (i + 1) src) e in
+    let h = and-eq-true-iff (ltb (getD src i 0) 128) (low-from n (i + 1) src) .0 e in
     let m : i + 1 + n ≡ i + suc n = omega arith in
     one-low src i (omega arith) (ltb-true (getD src i 0) 128 (h .0)) ∙ lows src n (i + 1) (omega arith) (h .1) ∙ ap (λ j. left [] (drop j src)) m
 
@@ -109,7 +104,7 @@ module _ (q : State) (src : List ℕ) (i : ℕ) where
       go false z = let y : w ≡ 0 = rw (z, passes) at e in absurd (omega arith)
       go true z =
           let y : w ≡ 8 = rw (z, passes) at e in
-          let a = and-true (starts q) (eight-low src i) z in
-          let b = and-true (leb (i + 8) (length src)) (low-from 8 i src) (a .1) in
+          let a = and-eq-true-iff (starts q) (eight-low src i) .0 z in
+          let b = and-eq-true-iff (leb (i + 8) (length src)) (low-from 8 i src) .0 (a .1) in
           let l : i + 8 ≤ length src = leb-true (i + 8) (length src) (b .0) in
           rw y (record { within = l; same = rw (start-wants q (a .0)) (lows src 8 i l (b .1)) })

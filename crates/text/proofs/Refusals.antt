@@ -9,14 +9,10 @@ use borrow.Author.Tests.{lt-ltb, le-ltb, eq-eqb, ne-eqb, ltb-false, eqb-false, n
 use Rattle.definition.specs.Text.{if_then_else_}
 use Rattle.definition.specs.Utf8.{left, utf8, nothing, cut, broken}
 use Rattle.definition.specs.Calls.{Check, refusal, longest-source, too-long, not-utf8}
+use Rattle.theorems.proofs.Refusals.{numbered}
 use Rattle.text.specs.Utf8.{told}
 use Rattle.text.specs.declared.utf8.Left.{Left}
 use Rattle.text.specs.declared.utf8.Left.the-variants.{Nothing, Cut, Broken}
-
--- No refusal has the number 0.
-unfoldable pub numbered : List Check → Bool
-numbered [] = true
-numbered (c ∷ cs) = not (eqb (c .number) 0) && numbered cs
 
 -- The refusals of a call in two parts: the first part decides unless it passes.
 pub refusal-split : (front rest : List Check) → numbered front ≡ true

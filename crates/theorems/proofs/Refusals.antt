@@ -1,7 +1,7 @@
 -- The refusals of the seven calls.
 use Prim.Native.Nat.{ℕ, zero, suc, _+_, _*_, _<_, _≤_}
 use mathlib.Core.Path.{_≡_, refl, ap, sym, _∙_}
-use mathlib.Core.Bool.{Bool, true, false, not, _&&_, _||_, false≢true, or-true}
+use mathlib.Core.Bool.{Bool, true, false, not, _&&_, _||_, false≢true, or-true, and-eq-true-iff}
 use mathlib.Core.Logic.{_↔_, _⊎_, inl, inr}
 use mathlib.Core.List.{List, [], _∷_, _++_, cons-ne-nil}
 use borrow.Author.Tests.{ltb-true, ltb-false, lt-ltb, le-ltb, eqb-true, eqb-false, eq-eqb, ne-eqb, not-true, not-false}
@@ -19,7 +19,6 @@ use Rattle.definition.specs.Tree.{Entry, Width, entries, entry-numbers, body-co
 use Rattle.definition.specs.Error.{Err, error-numbers}
 use Rattle.definition.specs.Syntax.{parse-define-body}
 use Rattle.definition.specs.Calls.{Check, Refusal, longest-source, most-concats, refusal, too-many, too-long, not-utf8, too-many-concats, short-table, no-line-table, no-kind, counted, filled, full-reading, reading-checks, outcome, reading, Filled, reading-body, listing-tokens, building-lines, unescaping, looking-up, pasting}
-use Rattle.theorems.proofs.Worked.{and-true}
 use Rattle.theorems.specs.Refusals.{Pass, Given, Refuses, Zeros, Some-over, Rises, Line-table}
 
 -- A number is given exactly if its condition holds and no earlier one does.
@@ -43,23 +42,20 @@ given-refusal : (cs : List Check) (n : ℕ) → Given n cs → refusal cs ≡ n
 given-refusal cs n g = ap refusal (g .all) ∙ first-refusal (g .before) (g .later) (g .check) (g .holds) (g .no-earlier) ∙ g .number-is
 
 -- No number is 0, so that 0 says that no condition holds.
-unfoldable numbered : List Check → Bool
+unfoldable pub numbered : List Check → Bool
 numbered [] = true
-numbered (c ∷ cs) = ltb 0 (c .number) && numbered cs
+numbered (c ∷ cs) = not (eqb (c .number) 0) && numbered cs
 
 refusal-pass : (cs : List Check) → numbered cs ≡ true → refusal cs ≡ 0 → Pass cs
 unfolding refusal Pass numbered
 refusal-pass [] h e = tt
 refusal-pass (c ∷ cs) h e = go (c .fails) refl (λ q. refusal-pass cs (k .1) q)
   where
-    k : (ltb 0 (c .number) ≡ true) × (numbered cs ≡ true)
-    k = and-true (ltb 0 (c .number)) (numbered cs) h
+    k : (not (eqb (c .number) 0) ≡ true) × (numbered cs ≡ true)
+    k = and-eq-true-iff (not (eqb (c .number) 0)) (numbered cs) .0 h
 
     go : (b : Bool) → c .fails ≡ b → (refusal cs ≡ 0 → Pass cs) → Pass (c ∷ cs)
-    go true f ih =
-        let q : c .number ≡ 0 = rw (f, refusal) at e in
-        let l : 0 < c .number = ltb-true 0 (c .number) (k .0) in
-        absurd (omega arith)
+    go true f ih = absurd (eqb-false (c .number) 0 (not-true (eqb (c .number) 0) (k .0)) (rw (f, refusal) at e))
     go false f ih = (f, ih (rw (f, refusal) at e))
 
 pass-refusal : (cs : List Check) → Pass cs → refusal cs ≡ 0
@@ -205,7 +201,7 @@ too-many-when ns = (some-over ns, over-some ns)
 rises-up : (s : ℕ) (ts : List ℕ) → rises s ts ≡ true → Rises s ts
 unfolding rises Rises
 rises-up s [] e = tt
-rises-up s (t ∷ ts) e = let h = and-true (ltb s t) (rises t ts) e in (ltb-true s t (h .0), rises-up t ts (h .1))
+rises-up s (t ∷ ts) e = let h = and-eq-true-iff (ltb s t) (rises t ts) .0 e in (ltb-true s t (h .0), rises-up t ts (h .1))
 
 up-rises : (s : ℕ) (ts : List ℕ) → Rises s ts → rises s ts ≡ true
 unfolding rises Rises
@@ -216,6 +212,6 @@ pub line-table-when : (lines : List ℕ) → (line-table lines ≡ true) ↔ Lin
 unfolding line-table Line-table
 line-table-when [] = (λ e. absurd (false≢true e), λ h. absurd h)
 line-table-when (s ∷ ss) = (
-  λ e. let h = and-true (eqb s 0) (rises s ss) e in (eqb-true s 0 (h .0), rises-up s ss (h .1)),
+  λ e. let h = and-eq-true-iff (eqb s 0) (rises s ss) .0 e in (eqb-true s 0 (h .0), rises-up s ss (h .1)),
   λ h. rw (eq-eqb s 0 (h .0)) (up-rises s ss (h .1)),
 )

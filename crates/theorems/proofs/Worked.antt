@@ -1,7 +1,7 @@
 -- The worked readings: the law that turns their computed test into an equation for each.
 use Prim.Native.Nat.{ℕ, zero, suc, _<_}
 use mathlib.Core.Path.{_≡_, refl, ap, ap₂}
-use mathlib.Core.Bool.{Bool, true, false, _&&_, false≢true}
+use mathlib.Core.Bool.{Bool, true, false, _&&_, false≢true, and-eq-true-iff}
 use mathlib.Core.List.{List, [], _∷_, List·Memᴰ, List·Memᴰ·not-nil, List·Memᴰ·cases-cons}
 use mathlib.Core.Logic.{inl, inr}
 use lib.Dec.{eqb}
@@ -10,24 +10,20 @@ use Rattle.definition.specs.Text.{ascii, same}
 use Rattle.definition.specs.Listed.{listed}
 use Rattle.definition.proofs.Worked.{Worked, worked, all-listed, worked-listed}
 
-pub and-true : (a b : Bool) → (a && b) ≡ true → (a ≡ true) × (b ≡ true)
-and-true true b e = (refl, e)
-and-true false b e = absurd (false≢true e)
-
 pub same-equal : (xs ys : List ℕ) → same xs ys ≡ true → xs ≡ ys
 unfolding same
 same-equal [] [] e = refl
 same-equal [] (y ∷ ys) e = absurd (false≢true e)
 same-equal (x ∷ xs) [] e = absurd (false≢true e)
 same-equal (x ∷ xs) (y ∷ ys) e =
-    let h = and-true (eqb x y) (same xs ys) e in
+    let h = and-eq-true-iff (eqb x y) (same xs ys) .0 e in
     ap₂ (λ a l. a ∷ l) (eqb-true x y (h .0)) (same-equal xs ys (h .1))
 
 each-listed : (ws : List Worked) → all-listed ws ≡ true → (w : Worked) → List·Memᴰ w ws → listed (w .source) ≡ w .numbers
 unfolding all-listed
 each-listed [] e w m = absurd (List·Memᴰ·not-nil m)
 each-listed (v ∷ ws) e w m =
-    let h = and-true (same (listed (v .source)) (v .numbers)) (all-listed ws) e in
+    let h = and-eq-true-iff (same (listed (v .source)) (v .numbers)) (all-listed ws) .0 e in
     elim (List·Memᴰ·cases-cons m) [
       | inl q ↦ rw q (same-equal (listed (v .source)) (v .numbers) (h .0))
       | inr k ↦ each-listed ws (h .1) w k

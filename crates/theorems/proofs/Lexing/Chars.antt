@@ -59,8 +59,8 @@ pub goes-on : (c b d : ℕ) → char-more c b ≡ some d → Goes-on c b d
 unfolding char-more
 goes-on c b d e = goes-on-by c b d _ _ _ refl refl refl e
 
--- A class that holds one newline character holds both and the pair: then a character has the class of its first byte.
-module _ (p : ℕ → Bool) (lf : p LF ≡ p CRLF) (cr : p CR ≡ p CRLF) where
+-- What does not tell the newline characters from the two as one is the same of a character as of its first byte.
+module _ {A : Type 0} (p : ℕ → A) (lf : p LF ≡ p CRLF) (cr : p CR ≡ p CRLF) where
   pub class-on : (c b d : ℕ) → Goes-on c b d → p d ≡ p c
   class-on c b d (tail e h k) = ap p e
   class-on c b d (cr-lf e h k) = rw (e, h) (sym cr)

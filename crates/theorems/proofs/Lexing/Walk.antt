@@ -1,6 +1,6 @@
 -- The pre-tokens of a source are those that the automaton over bytes finds.
 use Prim.Native.Nat.{ℕ, suc, _+_, _≤_}
-use mathlib.Core.Path.{_≡_, refl, ap, _∙_}
+use mathlib.Core.Path.{_≡_, refl, ap, sym, _∙_}
 use mathlib.Core.Bool.{Bool}
 use mathlib.Core.List.{List, [], _∷_, _++_, map}
 use mathlib.Core.Option.{Option, none, some}
@@ -11,7 +11,7 @@ use Rattle.definition.specs.Newline.{LF, CR, CRLF, char-more, chars}
 use Rattle.definition.specs.Unescaped.{unescaped}
 use Rattle.definition.specs.Pre.{State, Pre, done, slash, ident, single-comment, multi-comment, multi-comment-star, whitespace, quote-string, angle-string, backslash, digits, alone, in-ident, in-comment, in-digits, begin, flag, more, kind-of, pre-begin, pre-more, pres}
 use Rattle.definition.specs.Glue.{flat, pre-kind}
-use Rattle.theorems.proofs.Lexing.Chars.{char-row, first-char, row-on, row-off, Goes-on, tail, cr-lf, lf-cr, goes-on}
+use Rattle.theorems.proofs.Lexing.Chars.{char-row, first-char, row-on, row-off, class-kept}
 use Rattle.theorems.specs.Walk.{Walk, longer, walk, named, pre-tokens, pre-token}
 
 -- The row of pre-tokens that is being read.
@@ -36,32 +36,17 @@ more-pair (backslash in-comment) = (refl, refl)
 more-pair (backslash (in-digits e d)) = (refl, refl)
 more-pair (digits e d) = (refl, refl)
 
--- What does not tell the newline characters from the two as one acts on a character as on its first byte.
-module _ {A : Type 0} (p : ℕ → A) (cr : p CRLF ≡ p CR) (lf : p CRLF ≡ p LF) where
-  acts-on : (c b d : ℕ) → Goes-on c b d → p d ≡ p c
-  acts-on c b d (tail e h k) = ap p e
-  acts-on c b d (cr-lf e h k) = rw (e, h) cr
-  acts-on c b d (lf-cr e h k) = rw (e, h) lf
-
-  pub acts-kept : (c : ℕ) (bs : List ℕ) → p (char-row c bs .kind) ≡ p c
-  unfolding runs
-  acts-kept c [] = refl
-  acts-kept c (b ∷ bs) = go (char-more c b) refl (λ d. acts-kept d bs)
-    where
-      go : (o : Option ℕ) → char-more c b ≡ o → ((d : ℕ) → p (char-row d bs .kind) ≡ p d) → p (char-row c (b ∷ bs) .kind) ≡ p c
-      go (some d) e ih = rw (row-on c b bs d e) (ih d ∙ acts-on c b d (goes-on c b d e))
-      go none e ih = rw (row-off c b bs e) refl
-
+-- The automaton does not tell the newline characters from the two as one.
 begins : (f : Bool) (c : ℕ) (bs : List ℕ) → begin f (char-row c bs .kind) ≡ begin f c
 unfolding begin
-begins f = acts-kept (begin f) refl refl
+begins f = class-kept (begin f) refl refl
 
 flags : (f : Bool) (c : ℕ) (bs : List ℕ) → flag f (char-row c bs .kind) ≡ flag f c
 unfolding flag
-flags f = acts-kept (flag f) refl refl
+flags f = class-kept (flag f) refl refl
 
 mores : (q : State) (c : ℕ) (bs : List ℕ) → more q (char-row c bs .kind) ≡ more q c
-mores q = acts-kept (more q) (more-pair q .0) (more-pair q .1)
+mores q = class-kept (more q) (sym (more-pair q .1)) (sym (more-pair q .0))
 
 -- One equation for each case of `walk` and of the row of pre-tokens.
 module _ (c b : ℕ) (bs : List ℕ) where
