@@ -1,4 +1,4 @@
--- Readers of leaves: what a reader takes as a row of trees, the errors it meets, and what it leaves.
+-- Readers of leaves (01, "Directives"; `parser.rs`): what a reader takes as a row of trees, the errors it meets, and what it leaves.
 use Rattle.definition.specs.Text.{ℕ, Bool, true, false, not, _||_, List, [], _∷_, _++_, eqb, if_then_else_, Kind}
 use Rattle.definition.specs.Tree.{Leaf, Forest, nil, leaf, node, row, _▹_}
 use Rattle.definition.specs.Error.{Err, unexpected, end-of-input}

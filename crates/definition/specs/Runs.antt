@@ -1,4 +1,4 @@
--- The longest match: a row is cut into runs, each as long as it can be. All three stages of the lexer are this one rule.
+-- The longest match (01, "Gluing and lexing"; GLSL 3.7): a row is cut into runs, each as long as it can be. All three stages of the lexer are this one rule.
 use Rattle.definition.specs.Text.{List, [], _∷_, _++_, Option, none, some}
 
 -- A run: the state that it ended in, and what it holds, never nothing.
