@@ -3,3 +3,4 @@ pub mod Walk
 pub mod Step
 pub mod Demand3
 pub mod Refusals
+pub mod Left
