@@ -2,6 +2,7 @@ pub mod Accepts
 pub mod Demand3
 pub mod Entries
 pub mod Grammar
+pub mod Heights
 pub mod Left
 pub mod Lexing
 pub mod Refusals

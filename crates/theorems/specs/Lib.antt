@@ -4,3 +4,4 @@ pub mod Step
 pub mod Demand3
 pub mod Refusals
 pub mod Left
+pub mod Height
