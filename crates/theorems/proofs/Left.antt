@@ -1,6 +1,6 @@
 -- What is left to read from a place of a source: leaf by leaf, to the end, and lexed again.
-use Prim.Native.Nat.{ℕ, _+_, _≤_, _<_}
-use mathlib.Core.Path.{_≡_, refl, ap, sym, _∙_, subst}
+use Prim.Native.Nat.{ℕ, _+_, _≤_}
+use mathlib.Core.Path.{_≡_, refl, ap, sym, _∙_}
 use mathlib.Core.Bool.{Bool, true, false}
 use mathlib.Core.List.{List, [], _∷_, _++_}
 use lib.ListN.{length, take, drop, length-drop}
@@ -9,7 +9,7 @@ use native.Mathlib.Omega.{arith}
 use Rattle.definition.specs.SyntaxKind.{Kind}
 use Rattle.definition.specs.Runs.{text, joined}
 use Rattle.definition.specs.Glue.{Token, tokens}
-use Rattle.definition.specs.Tree.{Leaf, placed, bytes, stop}
+use Rattle.definition.specs.Tree.{placed, bytes, stop}
 use Rattle.definition.specs.Parser.{wrap}
 use Rattle.definition.specs.Syntax.{file, relexed, parse}
 use Rattle.theorems.specs.Placed.{Placed}

@@ -1,13 +1,13 @@
 -- A body nests no deeper than it has ##.
-use Prim.Native.Nat.{ℕ, suc, _+_, _-_, _≤_, _<_}
+use Prim.Native.Nat.{ℕ, suc, _-_, _≤_, _<_}
 use mathlib.Core.Path.{_≡_, refl}
-use mathlib.Core.Bool.{Bool, true, false, not, _&&_, false≢true}
+use mathlib.Core.Bool.{Bool, true, false, false≢true}
 use mathlib.Core.List.{List, [], _∷_}
 use native.Mathlib.Omega.{arith}
 use Rattle.definition.specs.SyntaxKind.{Kind}
-use Rattle.definition.specs.Tree.{Leaf, nil, leaf, node, leaves, row, body-kind, concat-ops}
-use Rattle.definition.specs.Parser.{is, trivia, Reader}
-use Rattle.definition.specs.Syntax.{nest, wrapped, pasted, pp-tokens-from, pp-tokens, trimmed, trailing}
+use Rattle.definition.specs.Tree.{Leaf, node, row, body-kind, concat-ops}
+use Rattle.definition.specs.Parser.{is, trivia}
+use Rattle.definition.specs.Syntax.{nest, wrapped, pasted, pp-tokens-from, pp-tokens}
 use Rattle.theorems.specs.Height.{height, Low}
 use Rattle.theorems.proofs.Tiling.Leaves.{leaves-pp-tokens}
 use Rattle.theorems.proofs.Heights.Laws.{low-body, low-row}

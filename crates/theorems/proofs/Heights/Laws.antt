@@ -1,5 +1,5 @@
 -- How deep rows of trees nest that are made of others, and how many ## their bodies hold.
-use Prim.Native.Nat.{ℕ, suc, _+_, max, _≤_}
+use Prim.Native.Nat.{ℕ, suc, max, _≤_}
 use mathlib.Core.Path.{_≡_, refl, sym}
 use mathlib.Core.Bool.{Bool, true, false, false≢true}
 use mathlib.Core.List.{List, [], _∷_, _++_, append-assoc}

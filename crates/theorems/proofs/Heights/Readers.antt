@@ -6,9 +6,9 @@ use mathlib.Core.List.{List, [], _∷_}
 use mathlib.Core.Option.{Option, none, some}
 use Rattle.definition.specs.Text.{if_then_else_}
 use Rattle.definition.specs.SyntaxKind.{Kind}
-use Rattle.definition.specs.Tree.{Leaf, nil, leaf, node, _▹_, body-kind}
+use Rattle.definition.specs.Tree.{Leaf, nil, leaf, body-kind}
 use Rattle.definition.specs.Error.{Err}
-use Rattle.definition.specs.Parser.{is, trivia, newline, inline, while, peek, Got, push, Reader, _then_, wrap, skip, skip-trivia, nothing, bump, maybe, expect-one}
+use Rattle.definition.specs.Parser.{is, trivia, newline, inline, while, peek, Got, Reader, _then_, wrap, skip, skip-trivia, nothing, bump, maybe, expect-one}
 use Rattle.definition.specs.Syntax.{trimmed, trailing, body, pp-body, wanted, push-arg, args, define-args, pp-define, pp-if-ident, pp-version, colon, pp-extension, extra, finish, unknown, depth, pp-rs-ident}
 use Rattle.theorems.specs.Height.{Low}
 use Rattle.theorems.proofs.Heights.Laws.{low-nil, low-leaf, low-row, low-▹, low-node}

@@ -1,5 +1,5 @@
 -- How deep the reading of a source nests: as many levels as the writer has, unless a body has too many ##.
-use Prim.Native.Nat.{ℕ, zero, suc, _+_, _≤_}
+use Prim.Native.Nat.{ℕ, zero, suc, _≤_}
 use mathlib.Core.Path.{_≡_, refl}
 use mathlib.Core.Bool.{Bool, true, false}
 use mathlib.Core.List.{List, [], _∷_}
@@ -12,10 +12,10 @@ use Rattle.definition.specs.Unescaped.{unescaped}
 use Rattle.definition.specs.Glue.{tokens}
 use Rattle.definition.specs.Tree.{Leaf, placed, Forest, nil, node, row, _▹_, body-kind, body-concats}
 use Rattle.definition.specs.Error.{Err}
-use Rattle.definition.specs.Parser.{is, trivia, newline, inline, while, after, peek, Got, Reader, _then_, wrap, skip, skip-trivia, nothing, bump}
-use Rattle.definition.specs.Syntax.{trimmed, pp-body, pp-include, Directive, directives, named, directive, unknown, pp-rs-ident, Line, group, control-line, hash-item, item, file, relexed, parse, parse-define-body}
-use Rattle.definition.specs.Calls.{most-concats, too-many}
-use Rattle.theorems.specs.Height.{height, open-levels, largest, Low}
+use Rattle.definition.specs.Parser.{is, trivia, newline, inline, while, after, peek, Got, _then_, skip-trivia, bump}
+use Rattle.definition.specs.Syntax.{trimmed, pp-include, Directive, directives, named, directive, pp-rs-ident, Line, group, control-line, hash-item, item, file, relexed, parse, parse-define-body}
+use Rattle.definition.specs.Calls.{too-many}
+use Rattle.theorems.specs.Height.{height, open-levels, Low}
 use Rattle.theorems.proofs.Heights.Laws.{largest-few, low-nil, low-row, low-▹, low-node, low-more}
 use Rattle.theorems.proofs.Heights.Bodies.{low-tokens}
 use Rattle.theorems.proofs.Heights.Readers.{Shallow, low-if, low-then, low-wrap, low-skip, low-trivia, low-nothing, low-bump, low-group, low-pp-body, low-finish, low-unknown, low-define, low-if-ident, low-version, low-extension}
