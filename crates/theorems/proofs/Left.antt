@@ -47,7 +47,7 @@ module _ (s : List ℕ) (at : ℕ) (f : Bool) (k e : ℕ) (g : Bool) (u : Steppe
 
 -- At any place and with any flag.
 module _ (s : List ℕ) (at : ℕ) (f : Bool) where
-  -- At the end of the source nothing is left, and only there.
+  -- At the end of the source nothing is left.
   pub left-over : length s ≤ at → left s at f ≡ []
   unfolding left placed
   left-over h = ap (placed at) (tokens-over f s at h)
@@ -57,14 +57,15 @@ module _ (s : List ℕ) (at : ℕ) (f : Bool) where
   unfolding left
   left-bytes = bytes-placed at (tokens f (drop at s)) ∙ joined-tokens f (drop at s)
 
-  pub left-none : left s at f ≡ [] → length s ≤ at
-  unfolding bytes
-  left-none h = omega (arith, length-drop at s, ap length (sym left-bytes ∙ ap bytes h))
-
   -- and lies from there on.
   pub left-lies : Placed at (left s at f)
   unfolding left
   left-lies = placed-lies at (tokens f (drop at s))
+
+  -- Where nothing is left the source is at its end.
+  pub left-none : left s at f ≡ [] → length s ≤ at
+  unfolding bytes
+  left-none h = omega (arith, length-drop at s, ap length (sym left-bytes ∙ ap bytes h))
 
 -- Leaves of tokens, lexed again with an angle string expected.
 relexed-placed : (at : ℕ) (ts : List Token) → relexed (placed at ts) ≡ placed at (tokens true (joined ts))

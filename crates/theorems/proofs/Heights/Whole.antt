@@ -21,7 +21,7 @@ use Rattle.theorems.proofs.Heights.Bodies.{low-tokens}
 use Rattle.theorems.proofs.Heights.Readers.{Shallow, low-if, low-then, low-wrap, low-skip, low-trivia, low-nothing, low-bump, low-group, low-pp-body, low-finish, low-unknown, low-define, low-if-ident, low-version, low-extension}
 
 -- Inside a directive's node there are two levels at most: a node, and one in it.
-abbrev inner : ℕ
+abbrev pub inner : ℕ
 inner = 2
 
 -- A directive whose node is no body.
