@@ -118,7 +118,8 @@ length-bytes (node k c f) =
     let y : length (bytes (leaves f)) ≡ size f = length-bytes f in
     rw (bytes-append (leaves c) (leaves f), length-append (bytes (leaves c)) (bytes (leaves f))) (omega arith)
 
-slice-take : (a n : ℕ) (l : List ℕ) → slice a (a + n) l ≡ take n (drop a l)
+-- A part of a list, by its start and its length.
+pub slice-take : (a n : ℕ) (l : List ℕ) → slice a (a + n) l ≡ take n (drop a l)
 slice-take zero n l = rw (zero-add n) refl
 slice-take (suc a) n [] = rw (suc-add a n) (sym (take-nil n))
 slice-take (suc a) n (x ∷ l) = rw (suc-add a n) (slice-take a n l)

@@ -2,6 +2,8 @@ pub mod Accepts
 pub mod Demand3
 pub mod Entries
 pub mod Grammar
+pub mod Heights
+pub mod Left
 pub mod Lexing
 pub mod Refusals
 pub mod Replay

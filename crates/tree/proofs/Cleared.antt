@@ -9,7 +9,8 @@ use Rattle.definition.specs.Tree.{Forest, Entry, entry-numbers}
 use Rattle.definition.specs.Calls.{padded}
 use Rattle.theorems.proofs.Refusals.{length-entries}
 use Rattle.text.proofs.Tables.{zeros, written-padded}
-use Rattle.tree.specs.Machine.{events, open-levels, far, pen-at, Writer, writer, run}
+use Rattle.theorems.specs.Height.{open-levels}
+use Rattle.tree.specs.Machine.{events, far, pen-at, Writer, writer, run}
 use Rattle.tree.specs.Writes.{Free, within, Standing, Ready, entries-at, end-at}
 use Rattle.tree.proofs.Puts.{puts-whole}
 use Rattle.tree.proofs.Writes.{writes-after, writes}

@@ -1,4 +1,3 @@
-pub mod Heights
 pub mod Sets
 pub mod Room
 pub mod Puts

@@ -10,8 +10,8 @@ use lib.Seq.{sets, sets-eq, set-set, getD-set-same, getD-set-other, set-getD}
 use Rattle.definition.specs.Tree.{Leaf, long, stop, Forest, nil, leaf, node, leaves, size, Entry, Width, entries, entry-numbers}
 use Rattle.theorems.specs.Placed.{Placed}
 use Rattle.theorems.proofs.Refusals.{length-entries}
-use Rattle.tree.specs.Height.{height}
-use Rattle.tree.specs.Machine.{Open, Shut, events, open-levels, far, leaf-entry, node-entry, open-entry, written, next, pen-at, Writer, writer, leafed, step, run}
+use Rattle.theorems.specs.Height.{height, open-levels}
+use Rattle.tree.specs.Machine.{Open, Shut, events, far, leaf-entry, node-entry, open-entry, written, next, pen-at, Writer, writer, leafed, step, run}
 use Rattle.tree.specs.Writes.{Free, Standing, Ready, entries-at, end-at, Wrote}
 use Rattle.tree.proofs.Room.{length-written}
 use Rattle.tree.proofs.Puts.{Page, page, put, puts, puts-++, length-puts, next-stands, puts-stands, puts-whole, puts-lost}

@@ -1,4 +1,3 @@
 pub mod Machine
-pub mod Height
 pub mod Tail
 pub mod Writes

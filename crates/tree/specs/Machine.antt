@@ -9,6 +9,7 @@ use lib.Seq.{sets}
 use Rattle.definition.specs.Text.{if_then_else_}
 use Rattle.definition.specs.Tree.{Forest, nil, leaf, node, stop, Entry, Form, Width, entry-numbers}
 use Rattle.definition.specs.Tree as tree
+use Rattle.theorems.specs.Height.{open-levels}
 use Rattle.tree.specs.declared.Pen.{Pen}
 
 -- What a reader hands the writer: a node begins, the innermost open node ends and has this kind, a leaf with its kind, start and end.
@@ -24,10 +25,6 @@ unfoldable pub events : Forest → List Event
 events nil = []
 events (leaf t f) = leaf-event t ∷ events f
 events (node k c f) = Open ∷ (events c ++ (Shut k ∷ events f))
-
--- How many nodes can be open: 256 nested PP_CONCAT, a body, a directive, ROOT, and one to spare.
-abbrev pub open-levels : ℕ
-open-levels = 260
 
 -- The place of the next entry once one did not fit: no table is that long.
 abbrev pub far : ℕ

@@ -5,8 +5,8 @@ use mathlib.Core.List.{List, _++_}
 use lib.ListN.{length, take, drop, getD}
 use Rattle.definition.specs.Tree.{Forest, leaves, size, Entry, Width, entries, entry-numbers}
 use Rattle.theorems.specs.Placed.{Placed}
-use Rattle.tree.specs.Height.{height}
-use Rattle.tree.specs.Machine.{open-levels, far, Writer}
+use Rattle.theorems.specs.Height.{height, open-levels}
+use Rattle.tree.specs.Machine.{far, Writer}
 
 -- Levels of which none from d on is open.
 pub record Free (d : ℕ) (levels : List ℕ) : Type 0 where

@@ -2,7 +2,8 @@
 ghost use mathlib.Core.Path.{_≡_};
 ghost use Prim.Native.Nat.{_-_};
 ghost use lib.ListN.{replicate};
-ghost use Rattle.tree.specs.Machine.{open-levels, level-at, set-level, one-deeper};
+ghost use Rattle.theorems.specs.Height.{open-levels};
+ghost use Rattle.tree.specs.Machine.{level-at, set-level, one-deeper};
 
 // 256 nested PP_CONCAT, a body, a directive, ROOT, and one to spare.
 pub const OPEN_LEVELS: usize = 260;

@@ -1,0 +1,4 @@
+pub mod Bodies
+pub mod Laws
+pub mod Readers
+pub mod Whole

@@ -1,0 +1,100 @@
+-- How deep rows of trees nest that are made of others, and how many ## their bodies hold.
+use Prim.Native.Nat.{ℕ, suc, max, _≤_}
+use mathlib.Core.Path.{_≡_, refl, sym}
+use mathlib.Core.Bool.{Bool, true, false, false≢true}
+use mathlib.Core.List.{List, [], _∷_, _++_, append-assoc}
+use native.Mathlib.Omega.{arith}
+use borrow.Author.Tests.{ltb-false}
+use lib.Dec.{ltb}
+use Rattle.definition.specs.Tree.{Leaf, Forest, nil, leaf, node, _▹_, leaves, row, body-kind, concat-ops, body-concats}
+use Rattle.definition.specs.Calls.{most-concats, too-many}
+use Rattle.theorems.specs.Height.{height, largest, Low}
+
+pub height-▹ : (f g : Forest) → height (f ▹ g) ≡ max (height f) (height g)
+unfolding height _▹_
+height-▹ nil g = omega arith
+height-▹ (leaf t f) g = height-▹ f g
+height-▹ (node k c f) g = omega (arith, height-▹ f g)
+
+pub height-node : (k : ℕ) (c f : Forest) → height (node k c f) ≡ max (suc (height c)) (height f)
+unfolding height
+height-node k c f = refl
+
+pub height-row : (ts : List Leaf) → height (row ts) ≡ 0
+unfolding height row
+height-row [] = refl
+height-row (t ∷ ts) = height-row ts
+
+-- Bounds, as readers put them together.
+pub both-low : (n : ℕ) (f g : Forest) → height f ≤ n → height g ≤ n → height (f ▹ g) ≤ n
+both-low n f g a b = omega (arith, height-▹ f g)
+
+pub node-low : (n k : ℕ) (c : Forest) → height c ≤ n → height (node k c nil) ≤ suc n
+unfolding height
+node-low n k c h = omega arith
+
+-- The ## of bodies: those inside a node, and those of two rows.
+inside : ℕ → Forest → List ℕ
+inside k c = elim (body-kind k) [ true ↦ concat-ops (leaves c) ∷ [] | false ↦ body-concats c ]
+
+pub concats-▹ : (f g : Forest) → body-concats (f ▹ g) ≡ body-concats f ++ body-concats g
+unfolding body-concats _▹_ inside
+concats-▹ nil g = refl
+concats-▹ (leaf t f) g = concats-▹ f g
+concats-▹ (node k c f) g = rw (concats-▹ f g) (sym (append-assoc (inside k c) (body-concats f) (body-concats g)))
+
+-- A node that is no body has the bodies inside it, and a body only itself.
+pub concats-node : (k : ℕ) (c f : Forest) → body-kind k ≡ false → body-concats (node k c f) ≡ body-concats c ++ body-concats f
+unfolding body-concats
+concats-node k c f e = rw (e, body-concats)
+
+pub concats-body : (k : ℕ) (c f : Forest) → body-kind k ≡ true → body-concats (node k c f) ≡ concat-ops (leaves c) ∷ body-concats f
+unfolding body-concats
+concats-body k c f e = rw (e, body-concats)
+
+-- The largest of two rows of numbers, and of those that are not too many.
+largest-append : (ms ns : List ℕ) → largest (ms ++ ns) ≡ max (largest ms) (largest ns)
+unfolding largest
+largest-append [] ns = omega arith
+largest-append (m ∷ ms) ns = omega (arith, largest-append ms ns)
+
+pub largest-few : (ns : List ℕ) → too-many ns ≡ false → largest ns ≤ most-concats
+unfolding largest too-many
+largest-few [] h = omega arith
+largest-few (n ∷ ns) h = go (ltb most-concats n) refl (largest-few ns)
+  where
+    go : (b : Bool) → ltb most-concats n ≡ b → (too-many ns ≡ false → largest ns ≤ most-concats) → max n (largest ns) ≤ most-concats
+    go true e ih = absurd (false≢true (sym (rw e at h)))
+    go false e ih = omega (arith, ltb-false most-concats n e, ih (rw e at h))
+
+-- What nests no deeper than its bodies' ## allow.
+module _ {n : ℕ} where
+  pub low-nil : Low n nil
+  unfolding height body-concats
+  low-nil = record { is = omega arith }
+
+  pub low-leaf : (t : Leaf) (f : Forest) → Low n f → Low n (leaf t f)
+  unfolding height body-concats
+  low-leaf t f h = record { is = h .is }
+
+  pub low-row : (ts : List Leaf) → Low n (row ts)
+  unfolding row
+  low-row [] = low-nil
+  low-row (t ∷ ts) = low-leaf t (row ts) (low-row ts)
+
+  pub low-more : (f : Forest) → Low n f → Low (suc n) f
+  low-more f h = record { is = omega (arith, h .is) }
+
+  pub low-▹ : (f g : Forest) → Low n f → Low n g → Low n (f ▹ g)
+  low-▹ f g a b =
+      record { is = rw (height-▹ f g, concats-▹ f g, largest-append (body-concats f) (body-concats g)) (omega (arith, a .is, b .is)) }
+
+  -- A node that is no body adds a level.
+  pub low-node : (k : ℕ) (c f : Forest) → body-kind k ≡ false → Low n c → Low (suc n) f → Low (suc n) (node k c f)
+  low-node k c f e a b =
+      record { is = rw (height-node k c f, concats-node k c f e, largest-append (body-concats c) (body-concats f)) (omega (arith, a .is, b .is)) }
+
+  -- A body adds one, and one more for each ## that it holds.
+  pub low-body : (k : ℕ) (c f : Forest) → body-kind k ≡ true → height c ≤ concat-ops (leaves c) → Low (suc n) f → Low (suc n) (node k c f)
+  unfolding largest
+  low-body k c f e a b = record { is = rw (height-node k c f, concats-body k c f e) (omega (arith, a, b .is)) }
