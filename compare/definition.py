@@ -16,7 +16,6 @@ if len(sys.argv) < 2:
 TOP = Path(__file__).resolve().parent.parent
 ORACLE, WANT = Path(sys.argv[1]) / "target/release", int(sys.argv[2]) if len(sys.argv) > 2 else 2400
 WORK, PER_FILE, LONGEST = TOP / "target/compare", 100, 120
-WIDTH = {"read": 5, "body": 5, "tokens": 3, "lines": 1, "unescape": 1}
 
 def run(program, *words, given=b""):
     return subprocess.run([str(ORACLE / program), *map(str, words)], input=given, stdout=subprocess.PIPE, check=True).stdout
