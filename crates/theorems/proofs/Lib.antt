@@ -5,5 +5,6 @@ pub mod Grammar
 pub mod Lexing
 pub mod Refusals
 pub mod Replay
+pub mod Rows
 pub mod Tiling
 pub mod Worked

@@ -1,0 +1,4 @@
+pub mod Ahead
+pub mod Bodies
+pub mod Cases
+pub mod Whole
