@@ -1,6 +1,6 @@
 -- A body's row read leaf by leaf, as code reads it: no row is cut off or trimmed first.
 use Rattle.definition.specs.Text.{ℕ, zero, suc, Bool, true, false, _||_, List, [], _∷_, _≡_, eqb, if_then_else_, Kind}
-use Rattle.definition.specs.Tree.{Leaf, Forest, nil, node}
+use Rattle.definition.specs.Tree.{Leaf, nil, node, leaves}
 use Rattle.definition.specs.Parser.{is, trivia, newline, Got, push, Reader, _then_, wrap, skip-trivia, nothing, bump}
 
 -- The kind of the first leaf that is no trivia, 0 if there is none, and the kinds that end a row.
@@ -32,43 +32,84 @@ concat-rest (t ∷ ts) =
     if ended (t ∷ ts) then nothing (t ∷ ts) else
     if is Kind.PP_CONCAT_OP t then under Kind.PP_CONCAT (push t (concat-rest ts)) else push t (concat-rest ts)
 
--- From a ## on, and from the trivia before it.
-unfoldable pub concat : Reader
-concat = bump then concat-rest
+-- The same with an allowance of further ##: where it is used up a ## is a plain leaf.
+abbrev pub allow : ℕ → (ℕ → Got) → Leaf → Got
+allow a g t = elim a [ zero ↦ push t (g zero) | suc b ↦ under Kind.PP_CONCAT (push t (g b)) ]
 
-unfoldable pub pasting : Reader
-pasting = skip-trivia then concat
-
--- A row before its first ##: the last token before it opens the first PP_CONCAT.
-unfoldable pub tokens-rest : Reader
-tokens-rest [] = nothing []
-tokens-rest (t ∷ ts) =
-    if ended (t ∷ ts) then nothing (t ∷ ts) else
-    if trivia t then push t (tokens-rest ts) else
-    if eqb (ahead ts) Kind.PP_CONCAT_OP then under Kind.PP_CONCAT (push t (pasting ts)) else push t (tokens-rest ts)
-
--- What `pp_tokens` reads, and a body: the row in its node, and then the trailing trivia.
-unfoldable pub row-reader : Reader
-row-reader ts = if eqb (ahead ts) Kind.PP_CONCAT_OP then under Kind.PP_CONCAT (pasting ts) else tokens-rest ts
-
-unfoldable pub row-line : ℕ → Reader
-row-line k = wrap k row-reader then skip-trivia
-
--- Both rests from a leaf on that is no trivia, where the row has not ended.
-unfoldable pub concat-next : Reader
-concat-next [] = nothing []
-concat-next (t ∷ ts) = if is Kind.PP_CONCAT_OP t then wrap Kind.PP_CONCAT concat (t ∷ ts) else push t (concat-rest ts)
-
-unfoldable pub tokens-next : Reader
-tokens-next [] = nothing []
-tokens-next (t ∷ ts) =
-    if eqb (ahead ts) Kind.PP_CONCAT_OP then wrap Kind.PP_CONCAT (bump then pasting) (t ∷ ts) else push t (tokens-rest ts)
-
--- The same with an allowance of ##: where it is used up a further ## is a plain leaf.
 unfoldable pub concat-rest-within : ℕ → Reader
 concat-rest-within a [] = nothing []
 concat-rest-within a (t ∷ ts) =
     if ended (t ∷ ts) then nothing (t ∷ ts) else
-    if is Kind.PP_CONCAT_OP t
-    then elim a [ zero ↦ push t (concat-rest-within zero ts) | suc b ↦ under Kind.PP_CONCAT (push t (concat-rest-within b ts)) ]
-    else push t (concat-rest-within a ts)
+    if is Kind.PP_CONCAT_OP t then allow a (λ b. concat-rest-within b ts) t else push t (concat-rest-within a ts)
+
+-- The readers up to that. r reads on behind the first ##.
+module _ (r : Reader) where
+  -- From a ## on, and from the trivia before it.
+  unfoldable pub concat-by : Reader
+  concat-by = bump then r
+
+  unfoldable pub pasting-by : Reader
+  pasting-by = skip-trivia then concat-by
+
+  -- A row before its first ##: the last token before it opens the first PP_CONCAT.
+  unfoldable pub tokens-rest-by : Reader
+  tokens-rest-by [] = nothing []
+  tokens-rest-by (t ∷ ts) =
+      if ended (t ∷ ts) then nothing (t ∷ ts) else
+      if trivia t then push t (tokens-rest-by ts) else
+      if eqb (ahead ts) Kind.PP_CONCAT_OP then under Kind.PP_CONCAT (push t (pasting-by ts)) else push t (tokens-rest-by ts)
+
+  -- The same from a leaf on that is no trivia, where the row has not ended.
+  unfoldable pub tokens-next-by : Reader
+  tokens-next-by [] = nothing []
+  tokens-next-by (t ∷ ts) =
+      if eqb (ahead ts) Kind.PP_CONCAT_OP then wrap Kind.PP_CONCAT (bump then pasting-by) (t ∷ ts) else push t (tokens-rest-by ts)
+
+  -- What `pp_tokens` reads, and a body: the row in its node, and then the trailing trivia.
+  unfoldable pub row-reader-by : Reader
+  row-reader-by ts = if eqb (ahead ts) Kind.PP_CONCAT_OP then wrap Kind.PP_CONCAT pasting-by ts else tokens-rest-by ts
+
+  unfoldable pub row-line-by : ℕ → Reader
+  row-line-by k = wrap k row-reader-by then skip-trivia
+
+-- With every ## in a node of its own, as the definition has it.
+abbrev pub concat : Reader
+concat = concat-by concat-rest
+
+abbrev pub pasting : Reader
+pasting = pasting-by concat-rest
+
+abbrev pub tokens-rest : Reader
+tokens-rest = tokens-rest-by concat-rest
+
+abbrev pub row-reader : Reader
+row-reader = row-reader-by concat-rest
+
+abbrev pub row-line : ℕ → Reader
+row-line = row-line-by concat-rest
+
+-- With an allowance of ## behind the first.
+abbrev pub concat-within : ℕ → Reader
+concat-within a = concat-by (concat-rest-within a)
+
+abbrev pub row-reader-within : ℕ → Reader
+row-reader-within a = row-reader-by (concat-rest-within a)
+
+abbrev pub row-line-within : ℕ → ℕ → Reader
+row-line-within a = row-line-by (concat-rest-within a)
+
+-- Behind a ##, from a leaf on that is no trivia, where the row has not ended.
+unfoldable pub concat-next : Reader
+concat-next [] = nothing []
+concat-next (t ∷ ts) = if is Kind.PP_CONCAT_OP t then wrap Kind.PP_CONCAT concat (t ∷ ts) else push t (concat-rest ts)
+
+unfoldable pub concat-next-within : ℕ → Reader
+concat-next-within a [] = nothing []
+concat-next-within a (t ∷ ts) =
+    if is Kind.PP_CONCAT_OP t then allow a (λ b. concat-rest-within b ts) t else push t (concat-rest-within a ts)
+
+-- Two readings that differ in nodes alone.
+pub record Alike (g h : Got) : Type 0 where
+  pub same-leaves : leaves (g .tree) ≡ leaves (h .tree)
+  pub same-errs : g .errs ≡ h .errs
+  pub same-rest : g .rest ≡ h .rest

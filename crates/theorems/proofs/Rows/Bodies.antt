@@ -6,7 +6,7 @@ use mathlib.Core.List.{List, [], _∷_, _++_}
 use Rattle.definition.specs.Tree.{Leaf, nil, node, row, _▹_}
 use Rattle.definition.specs.Parser.{trivia, inline, while, after, peek, Reader, _then_, wrap, skip, skip-trivia}
 use Rattle.definition.specs.Syntax.{all-trivia, trailing, body, pp-body}
-use Rattle.theorems.specs.Rows.{row-reader, row-line}
+use Rattle.theorems.specs.Rows.{row-line-by, row-line}
 use Rattle.theorems.proofs.Tiling.Leaves.{while-yes, while-stop, after-yes, after-stop}
 use Rattle.theorems.proofs.Grammar.Clean.{trivia-inline, peek-after}
 use Rattle.theorems.proofs.Rows.Whole.{row-whole, trailing-trivia}
@@ -53,7 +53,7 @@ module _ (ts : List Leaf) where
 -- Bodies.
 module _ (k : ℕ) (ts : List Leaf) where
   pub body-line : body k ts ≡ row-line k ts
-  unfolding body row-line _then_ wrap _▹_
+  unfolding body row-line-by _then_ wrap _▹_
   body-line = rw (row-whole ts, skip-trailing ts) refl
 
 pub pp-body-line : (k : ℕ) (ts : List Leaf) → pp-body k ts ≡ (skip-trivia then row-line k) ts

@@ -6,13 +6,13 @@ use borrow.Author.Tests.{eqb-true}
 use lib.Dec.{eqb}
 use Rattle.definition.specs.SyntaxKind.{Kind}
 use Rattle.definition.specs.Tree.{Leaf, Forest, nil, leaf, node}
-use Rattle.definition.specs.Parser.{is, trivia, newline, inline, while, after, peek, push, Reader, nothing}
+use Rattle.definition.specs.Parser.{is, trivia, newline, inline, while, after, peek, push, Reader, wrap, nothing}
 use Rattle.definition.specs.Syntax.{nest, wrapped, pasted, pp-tokens-from, pp-tokens, all-trivia, trimmed, trailing}
 use Rattle.theorems.specs.Rows.{ahead, ended, under, concat-rest, pasting, tokens-rest, row-reader}
 use Rattle.theorems.proofs.Tiling.Leaves.{while-yes, while-stop, after-yes, while-after}
 use Rattle.theorems.proofs.Grammar.Clean.{trivia-inline}
 use Rattle.theorems.proofs.Rows.Ahead.{ahead-trivia, ahead-token, ended-trivia, ended-token, trivia-plain, paste-goes-on, goes-on-inline}
-use Rattle.theorems.proofs.Rows.Cases.{concat-rest-ended, concat-rest-plain, concat-rest-op, pasting-trivia, pasting-op, tokens-rest-ended, tokens-rest-trivia, tokens-rest-plain, tokens-rest-paste}
+use Rattle.theorems.proofs.Rows.Cases.{concat-rest-ended, concat-rest-plain, concat-rest-op, pasting-trivia, pasting-op, tokens-rest-ended, tokens-rest-trivia, tokens-rest-plain, tokens-rest-paste, row-paste, row-plain}
 
 -- The row up to the newline without its trailing trivia, and all that stands behind it.
 abbrev pub line : List Leaf → List Leaf
@@ -160,36 +160,36 @@ pasting-row (t ∷ ts) k = go (trivia t) refl (pasting-row ts)
 
     go : (b : Bool) → trivia t ≡ b → (op-ahead ts ≡ true → pasting ts ≡ rowed wrapped ts) → pasting (t ∷ ts) ≡ rowed wrapped (t ∷ ts)
     go true q ih =
-        pasting-trivia t ts q ∙ ap (push t) (ih (sym (ap (λ n. eqb n Kind.PP_CONCAT_OP) (ahead-trivia t ts q)) ∙ k))
+        pasting-trivia concat-rest t ts q ∙ ap (push t) (ih (sym (ap (λ n. eqb n Kind.PP_CONCAT_OP) (ahead-trivia t ts q)) ∙ k))
         ∙ sym (rowed-more wrapped wrapped (leaf t) t ts e (wrapped-plain t (kept ts) (trivia-plain t q)))
     go false q ih =
-        pasting-op t ts q ∙ ap (push t) (concat-rest-row ts)
+        pasting-op concat-rest t ts q ∙ ap (push t) (concat-rest-row ts)
         ∙ sym (rowed-more wrapped nest (leaf t) t ts e (wrapped-op t (kept ts) (sym (ap (λ n. eqb n Kind.PP_CONCAT_OP) (ahead-token t ts q)) ∙ k)))
 
 -- Before the first ##.
 pub tokens-rest-row : (ts : List Leaf) → tokens-rest ts ≡ rowed pp-tokens-from ts
 unfolding pp-tokens-from ended
-tokens-rest-row [] = tokens-rest-ended [] refl ∙ sym (rowed-ended pp-tokens-from [] refl refl)
+tokens-rest-row [] = tokens-rest-ended concat-rest [] refl ∙ sym (rowed-ended pp-tokens-from [] refl refl)
 tokens-rest-row (t ∷ ts) = go (ended (t ∷ ts)) refl (trivia t) refl (op-ahead ts) refl (tokens-rest-row ts)
   where
     go : (a : Bool) → ended (t ∷ ts) ≡ a → (b : Bool) → trivia t ≡ b → (c : Bool) → op-ahead ts ≡ c → tokens-rest ts ≡ rowed pp-tokens-from ts → tokens-rest (t ∷ ts) ≡ rowed pp-tokens-from (t ∷ ts)
-    go true e b q c k ih = tokens-rest-ended (t ∷ ts) e ∙ sym (rowed-ended pp-tokens-from (t ∷ ts) refl e)
+    go true e b q c k ih = tokens-rest-ended concat-rest (t ∷ ts) e ∙ sym (rowed-ended pp-tokens-from (t ∷ ts) refl e)
     go false e true q c k ih =
-        tokens-rest-trivia t ts e q ∙ ap (push t) ih ∙ sym (rowed-more pp-tokens-from pp-tokens-from (leaf t) t ts e (from-trivia t (kept ts) q))
+        tokens-rest-trivia concat-rest t ts e q ∙ ap (push t) ih ∙ sym (rowed-more pp-tokens-from pp-tokens-from (leaf t) t ts e (from-trivia t (kept ts) q))
     go false e false q true k ih =
-        tokens-rest-paste t ts e q k ∙ ap (λ g. under Kind.PP_CONCAT (push t g)) (pasting-row ts k)
+        tokens-rest-paste concat-rest t ts e q k ∙ ap (λ g. under Kind.PP_CONCAT (push t g)) (pasting-row ts k)
         ∙ sym (rowed-more pp-tokens-from wrapped (λ c. node Kind.PP_CONCAT (leaf t c) nil) t ts e (from-paste t (kept ts) q (pasted-kept ts ∙ k)))
     go false e false q false k ih =
-        tokens-rest-plain t ts e q k ∙ ap (push t) ih ∙ sym (rowed-more pp-tokens-from pp-tokens-from (leaf t) t ts e (from-plain t (kept ts) q (pasted-kept ts ∙ k)))
+        tokens-rest-plain concat-rest t ts e q k ∙ ap (push t) ih ∙ sym (rowed-more pp-tokens-from pp-tokens-from (leaf t) t ts e (from-plain t (kept ts) q (pasted-kept ts ∙ k)))
 
 -- The whole row.
 pub row-whole : (ts : List Leaf) → row-reader ts ≡ record { tree = pp-tokens (trimmed (while inline ts)); errs = []; rest = trailing (while inline ts) ++ after inline ts }
-unfolding pp-tokens row-reader
+unfolding pp-tokens wrap
 row-whole ts = go (op-ahead ts) refl
   where
     go : (b : Bool) → op-ahead ts ≡ b → row-reader ts ≡ rowed pp-tokens ts
-    go true k = rw (k, row-reader, pasted-kept ts, k, pp-tokens) (ap (under Kind.PP_CONCAT) (pasting-row ts k))
-    go false k = rw (k, row-reader, pasted-kept ts, k, pp-tokens) (tokens-rest-row ts)
+    go true k = row-paste concat-rest ts k ∙ rw (pasted-kept ts, k, pp-tokens) (ap (under Kind.PP_CONCAT) (pasting-row ts k))
+    go false k = row-plain concat-rest ts k ∙ rw (pasted-kept ts, k, pp-tokens) (tokens-rest-row ts)
 
 -- What trails is trivia.
 pub trailing-trivia : (us : List Leaf) → all-trivia (trailing us) ≡ true
