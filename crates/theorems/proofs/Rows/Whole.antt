@@ -67,7 +67,7 @@ module _ (ts : List Leaf) (e : ended ts ≡ true) where
   behind-ended = rw (trailing-all (line ts) (ended-line ts ∙ e)) (while-after inline ts)
 
 module _ (t : Leaf) (ts : List Leaf) (e : ended (t ∷ ts) ≡ false) where
-  line-more : line (t ∷ ts) ≡ t ∷ line ts
+  pub line-more : line (t ∷ ts) ≡ t ∷ line ts
   line-more = while-yes inline t ts (goes-on-inline t ts e)
 
   not-all : all-trivia (t ∷ line ts) ≡ false
@@ -80,10 +80,10 @@ module _ (t : Leaf) (ts : List Leaf) (e : ended (t ∷ ts) ≡ false) where
   behind-more = rw (line-more, trailing-more t (line ts) not-all, after-yes inline t ts (goes-on-inline t ts e)) refl
 
 -- The look ahead meets a ## of the row itself.
-abbrev op-ahead : List Leaf → Bool
+abbrev pub op-ahead : List Leaf → Bool
 op-ahead ts = eqb (ahead ts) Kind.PP_CONCAT_OP
 
-op-goes-on : (ts : List Leaf) → op-ahead ts ≡ true → ended ts ≡ false
+pub op-goes-on : (ts : List Leaf) → op-ahead ts ≡ true → ended ts ≡ false
 op-goes-on ts k = paste-goes-on ts (eqb-true (ahead ts) Kind.PP_CONCAT_OP k)
 
 pasted-kept : (ts : List Leaf) → pasted (kept ts) ≡ op-ahead ts
