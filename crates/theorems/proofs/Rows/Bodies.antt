@@ -22,7 +22,7 @@ outside (t ∷ ts) e = go (trivia t) refl
     go false q = q
 
 -- Trivia before such a row is skipped whole, and no more.
-trivial-first : (t : Leaf) (us : List Leaf) → all-trivia (t ∷ us) ≡ true → (trivia t ≡ true) × (all-trivia us ≡ true)
+pub trivial-first : (t : Leaf) (us : List Leaf) → all-trivia (t ∷ us) ≡ true → (trivia t ≡ true) × (all-trivia us ≡ true)
 unfolding all-trivia
 trivial-first t us e = go (trivia t) refl
   where
