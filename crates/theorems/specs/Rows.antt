@@ -1,5 +1,5 @@
 -- A body's row read leaf by leaf, as code reads it: no row is cut off or trimmed first.
-use Rattle.definition.specs.Text.{ℕ, zero, suc, Bool, true, false, _||_, List, [], _∷_, _≡_, eqb, if_then_else_, Kind}
+use Rattle.definition.specs.Text.{ℕ, zero, suc, Bool, true, _||_, List, [], _∷_, _≡_, eqb, if_then_else_, Kind}
 use Rattle.definition.specs.Tree.{Leaf, nil, node, leaves}
 use Rattle.definition.specs.Parser.{is, trivia, newline, Got, push, Reader, _then_, wrap, skip-trivia, nothing, bump}
 
@@ -10,6 +10,10 @@ ahead (t ∷ ts) = if trivia t then ahead ts else t .kind
 
 abbrev pub ends : ℕ → Bool
 ends k = eqb k 0 || eqb k Kind.NEWLINE
+
+-- Whether a ## is ahead.
+abbrev pub op-ahead : List Leaf → Bool
+op-ahead ts = eqb (ahead ts) Kind.PP_CONCAT_OP
 
 -- Whether only trivia stands before the newline or the end.
 unfoldable pub ended : List Leaf → Bool
@@ -57,17 +61,17 @@ module _ (r : Reader) where
   tokens-rest-by (t ∷ ts) =
       if ended (t ∷ ts) then nothing (t ∷ ts) else
       if trivia t then push t (tokens-rest-by ts) else
-      if eqb (ahead ts) Kind.PP_CONCAT_OP then under Kind.PP_CONCAT (push t (pasting-by ts)) else push t (tokens-rest-by ts)
+      if op-ahead ts then under Kind.PP_CONCAT (push t (pasting-by ts)) else push t (tokens-rest-by ts)
 
   -- The same from a leaf on that is no trivia, where the row has not ended.
   unfoldable pub tokens-next-by : Reader
   tokens-next-by [] = nothing []
   tokens-next-by (t ∷ ts) =
-      if eqb (ahead ts) Kind.PP_CONCAT_OP then wrap Kind.PP_CONCAT (bump then pasting-by) (t ∷ ts) else push t (tokens-rest-by ts)
+      if op-ahead ts then wrap Kind.PP_CONCAT (bump then pasting-by) (t ∷ ts) else push t (tokens-rest-by ts)
 
   -- What `pp_tokens` reads, and a body: the row in its node, and then the trailing trivia.
   unfoldable pub row-reader-by : Reader
-  row-reader-by ts = if eqb (ahead ts) Kind.PP_CONCAT_OP then wrap Kind.PP_CONCAT pasting-by ts else tokens-rest-by ts
+  row-reader-by ts = if op-ahead ts then wrap Kind.PP_CONCAT pasting-by ts else tokens-rest-by ts
 
   unfoldable pub row-line-by : ℕ → Reader
   row-line-by k = wrap k row-reader-by then skip-trivia

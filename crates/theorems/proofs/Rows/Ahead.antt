@@ -1,16 +1,14 @@
 -- The look ahead over trivia: what the kind that it meets says of a row.
-use Prim.Native.Nat.{ℕ}
 use mathlib.Core.Path.{_≡_, refl, ap, sym, _∙_}
-use mathlib.Core.Bool.{Bool, true, false, not, _||_, true≢false}
+use mathlib.Core.Bool.{Bool, true, false, not, true≢false}
 use mathlib.Core.List.{List, [], _∷_}
-use borrow.Author.Tests.{eq-eqb, ne-eqb}
+use borrow.Author.Tests.{eq-eqb, ne-eqb, eqb-true}
 use native.Mathlib.Omega.{arith}
-use lib.Dec.{eqb}
 use Rattle.definition.specs.SyntaxKind.{Kind}
 use Rattle.definition.specs.Tree.{Leaf}
 use Rattle.definition.specs.Parser.{is, trivia, newline, inline}
 use Rattle.definition.specs.Syntax.{pasted}
-use Rattle.theorems.specs.Rows.{ahead, ends, ended, Known}
+use Rattle.theorems.specs.Rows.{ahead, ends, op-ahead, ended, Known}
 use Rattle.theorems.proofs.Grammar.Clean.{of-kind, trivia-inline}
 
 -- One equation a case.
@@ -22,6 +20,12 @@ module _ (t : Leaf) (ts : List Leaf) where
   pub ahead-token : trivia t ≡ false → ahead (t ∷ ts) ≡ t .kind
   unfolding ahead
   ahead-token e = rw (e, ahead)
+
+  pub op-ahead-trivia : trivia t ≡ true → op-ahead (t ∷ ts) ≡ op-ahead ts
+  op-ahead-trivia e = rw (ahead-trivia e) refl
+
+  pub op-ahead-token : trivia t ≡ false → op-ahead (t ∷ ts) ≡ is Kind.PP_CONCAT_OP t
+  op-ahead-token e = rw (ahead-token e) refl
 
   pub ended-trivia : trivia t ≡ true → ended (t ∷ ts) ≡ ended ts
   unfolding ended
@@ -77,17 +81,19 @@ ends-ended (t ∷ ts) n = go (trivia t) refl (ends-ended ts (n .1))
     go false q ih = rw (ahead-token t ts q, ended-token t ts q, ne-eqb (t .kind) 0 (n .0)) refl
 
 -- The definition's test for a ##, and that a row with one ahead has not ended.
-pub pasted-ahead : (ts : List Leaf) → pasted ts ≡ eqb (ahead ts) Kind.PP_CONCAT_OP
+pub pasted-ahead : (ts : List Leaf) → pasted ts ≡ op-ahead ts
 unfolding pasted ahead
 pasted-ahead [] = refl
 pasted-ahead (t ∷ ts) = go (trivia t) refl (pasted-ahead ts)
   where
-    go : (b : Bool) → trivia t ≡ b → pasted ts ≡ eqb (ahead ts) Kind.PP_CONCAT_OP → pasted (t ∷ ts) ≡ eqb (ahead (t ∷ ts)) Kind.PP_CONCAT_OP
+    go : (b : Bool) → trivia t ≡ b → pasted ts ≡ op-ahead ts → pasted (t ∷ ts) ≡ op-ahead (t ∷ ts)
     go true q ih = rw (q, pasted, ahead) ih
     go false q ih = rw (q, pasted, ahead) refl
 
-pub paste-goes-on : (ts : List Leaf) → ahead ts ≡ Kind.PP_CONCAT_OP → ended ts ≡ false
-paste-goes-on ts e = more-ahead ts (rw e (λ h. omega arith)) (rw e (λ h. omega arith))
+pub op-goes-on : (ts : List Leaf) → op-ahead ts ≡ true → ended ts ≡ false
+op-goes-on ts k =
+    let e : ahead ts ≡ Kind.PP_CONCAT_OP = eqb-true (ahead ts) Kind.PP_CONCAT_OP k in
+    more-ahead ts (rw e (λ h. omega arith)) (rw e (λ h. omega arith))
 
 -- A leaf of a row that has not ended is no newline.
 pub goes-on-inline : (t : Leaf) (ts : List Leaf) → ended (t ∷ ts) ≡ false → inline t ≡ true

@@ -1,10 +1,10 @@
 -- A body is its row read leaf by leaf in a node, and then the trailing trivia.
 use Prim.Native.Nat.{ℕ}
 use mathlib.Core.Path.{_≡_, refl, ap, sym, _∙_}
-use mathlib.Core.Bool.{Bool, true, false, _&&_, true≢false}
+use mathlib.Core.Bool.{Bool, true, false, true≢false}
 use mathlib.Core.List.{List, [], _∷_, _++_}
-use Rattle.definition.specs.Tree.{Leaf, nil, node, row, _▹_}
-use Rattle.definition.specs.Parser.{trivia, inline, while, after, peek, Reader, _then_, wrap, skip, skip-trivia}
+use Rattle.definition.specs.Tree.{Leaf, row, _▹_}
+use Rattle.definition.specs.Parser.{trivia, inline, while, after, peek, _then_, wrap, skip, skip-trivia}
 use Rattle.definition.specs.Syntax.{all-trivia, trailing, body, pp-body}
 use Rattle.theorems.specs.Rows.{row-line-by, row-line}
 use Rattle.theorems.proofs.Tiling.Leaves.{while-yes, while-stop, after-yes, after-stop}

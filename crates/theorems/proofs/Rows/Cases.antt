@@ -3,11 +3,10 @@ use Prim.Native.Nat.{ℕ, zero, suc}
 use mathlib.Core.Path.{_≡_, refl, ap, sym, _∙_}
 use mathlib.Core.Bool.{Bool, true, false, true≢false}
 use mathlib.Core.List.{List, [], _∷_}
-use lib.Dec.{eqb}
 use Rattle.definition.specs.SyntaxKind.{Kind}
 use Rattle.definition.specs.Tree.{Leaf, row, _▹_}
 use Rattle.definition.specs.Parser.{is, trivia, peek, push, Reader, _then_, wrap, skip, skip-trivia, nothing, bump}
-use Rattle.theorems.specs.Rows.{ahead, ended, under, allow, concat-rest, concat-rest-within, concat-by, pasting-by, tokens-rest-by, tokens-next-by, row-reader-by, concat, concat-within, concat-next, concat-next-within}
+use Rattle.theorems.specs.Rows.{op-ahead, ended, under, allow, concat-rest, concat-rest-within, concat-by, pasting-by, tokens-rest-by, tokens-next-by, row-reader-by, concat, concat-within, concat-next, concat-next-within}
 use Rattle.theorems.proofs.Tiling.Leaves.{while-yes, while-stop, after-yes, after-stop}
 use Rattle.theorems.proofs.Rows.Ahead.{ended-trivia, trivia-plain}
 
@@ -139,28 +138,28 @@ module _ (r : Reader) where
     tokens-rest-trivia q = rw (e, q, tokens-rest-by)
 
     module _ (q : trivia t ≡ false) where
-      pub tokens-rest-plain : eqb (ahead ts) Kind.PP_CONCAT_OP ≡ false → tokens-rest-by r (t ∷ ts) ≡ push t (tokens-rest-by r ts)
+      pub tokens-rest-plain : op-ahead ts ≡ false → tokens-rest-by r (t ∷ ts) ≡ push t (tokens-rest-by r ts)
       unfolding tokens-rest-by
       tokens-rest-plain k = rw (e, q, k, tokens-rest-by)
 
-      pub tokens-rest-paste : eqb (ahead ts) Kind.PP_CONCAT_OP ≡ true → tokens-rest-by r (t ∷ ts) ≡ under Kind.PP_CONCAT (push t (pasting-by r ts))
+      pub tokens-rest-paste : op-ahead ts ≡ true → tokens-rest-by r (t ∷ ts) ≡ under Kind.PP_CONCAT (push t (pasting-by r ts))
       unfolding tokens-rest-by
       tokens-rest-paste k = rw (e, q, k, tokens-rest-by)
 
   module _ (t : Leaf) (ts : List Leaf) where
-    pub tokens-next-paste : eqb (ahead ts) Kind.PP_CONCAT_OP ≡ true → tokens-next-by r (t ∷ ts) ≡ wrap Kind.PP_CONCAT (bump then pasting-by r) (t ∷ ts)
+    pub tokens-next-paste : op-ahead ts ≡ true → tokens-next-by r (t ∷ ts) ≡ wrap Kind.PP_CONCAT (bump then pasting-by r) (t ∷ ts)
     unfolding tokens-next-by
     tokens-next-paste k = rw (k, tokens-next-by)
 
-    pub tokens-next-plain : eqb (ahead ts) Kind.PP_CONCAT_OP ≡ false → tokens-next-by r (t ∷ ts) ≡ push t (tokens-rest-by r ts)
+    pub tokens-next-plain : op-ahead ts ≡ false → tokens-next-by r (t ∷ ts) ≡ push t (tokens-rest-by r ts)
     unfolding tokens-next-by
     tokens-next-plain k = rw (k, tokens-next-by)
 
   tokens-here : (t : Leaf) (ts : List Leaf) → ended (t ∷ ts) ≡ false → trivia t ≡ false → tokens-rest-by r (t ∷ ts) ≡ tokens-next-by r (t ∷ ts)
   unfolding wrap _then_ bump _▹_
-  tokens-here t ts e q = go (eqb (ahead ts) Kind.PP_CONCAT_OP) refl
+  tokens-here t ts e q = go (op-ahead ts) refl
     where
-      go : (b : Bool) → eqb (ahead ts) Kind.PP_CONCAT_OP ≡ b → tokens-rest-by r (t ∷ ts) ≡ tokens-next-by r (t ∷ ts)
+      go : (b : Bool) → op-ahead ts ≡ b → tokens-rest-by r (t ∷ ts) ≡ tokens-next-by r (t ∷ ts)
       go true k = rw (tokens-rest-paste t ts e q k, tokens-next-paste t ts k) refl
       go false k = rw (tokens-rest-plain t ts e q k, tokens-next-plain t ts k) refl
 
@@ -168,10 +167,10 @@ module _ (r : Reader) where
   tokens-rest-on = on (tokens-rest-by r) (tokens-next-by r) tokens-rest-trivia tokens-here
 
   -- From the start of the row.
-  pub row-paste : (ts : List Leaf) → eqb (ahead ts) Kind.PP_CONCAT_OP ≡ true → row-reader-by r ts ≡ wrap Kind.PP_CONCAT (pasting-by r) ts
+  pub row-paste : (ts : List Leaf) → op-ahead ts ≡ true → row-reader-by r ts ≡ wrap Kind.PP_CONCAT (pasting-by r) ts
   unfolding row-reader-by
   row-paste ts k = rw (k, row-reader-by)
 
-  pub row-plain : (ts : List Leaf) → eqb (ahead ts) Kind.PP_CONCAT_OP ≡ false → row-reader-by r ts ≡ tokens-rest-by r ts
+  pub row-plain : (ts : List Leaf) → op-ahead ts ≡ false → row-reader-by r ts ≡ tokens-rest-by r ts
   unfolding row-reader-by
   row-plain ts k = rw (k, row-reader-by)

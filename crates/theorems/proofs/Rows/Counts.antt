@@ -4,13 +4,11 @@ use mathlib.Core.Path.{_≡_, refl, ap, sym, _∙_}
 use mathlib.Core.Bool.{Bool, true, false}
 use mathlib.Core.List.{List, [], _∷_, _++_}
 use native.Mathlib.Omega.{arith}
-use Rattle.definition.specs.Text.{if_then_else_}
-use Rattle.definition.specs.SyntaxKind.{Kind}
-use Rattle.definition.specs.Tree.{Leaf, Forest, nil, node, _▹_, leaves, row, body-kind, concat-ops, body-concats}
-use Rattle.definition.specs.Parser.{is, trivia, inline, while, after, peek, Reader, _then_, wrap, skip, skip-trivia}
+use Rattle.definition.specs.Tree.{Leaf, Forest, node, _▹_, leaves, row, body-kind, concat-ops, body-concats}
+use Rattle.definition.specs.Parser.{trivia, inline, while, after, peek, Reader, _then_, wrap, skip, skip-trivia}
 use Rattle.definition.specs.Syntax.{pp-tokens, all-trivia, trimmed, trailing, body, pp-body}
-use Rattle.theorems.specs.Rows.{ended, row-reader, row-reader-within, row-line-by, row-line, row-line-within, Alike}
-use Rattle.theorems.proofs.Tiling.Leaves.{leaves-▹, leaves-row, leaves-pp-tokens, trimmed-trailing, while-yes, after-yes, after-stop}
+use Rattle.theorems.specs.Rows.{row-reader, row-reader-within, row-line-by, row-line-within, Alike}
+use Rattle.theorems.proofs.Tiling.Leaves.{leaves-▹, leaves-pp-tokens, trimmed-trailing, while-yes, after-yes, after-stop}
 use Rattle.theorems.proofs.Grammar.Clean.{trivia-inline}
 use Rattle.theorems.proofs.Rows.Ahead.{trivia-plain}
 use Rattle.theorems.proofs.Rows.Whole.{row-whole, trailing-trivia}

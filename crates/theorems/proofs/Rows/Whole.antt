@@ -1,17 +1,15 @@
 -- A row read leaf by leaf is the row that the definition cuts off, trims and puts into nodes as a whole.
 use mathlib.Core.Path.{_≡_, refl, ap, sym, _∙_}
-use mathlib.Core.Bool.{Bool, true, false, not, _&&_, true≢false}
+use mathlib.Core.Bool.{Bool, true, false, not, true≢false}
 use mathlib.Core.List.{List, [], _∷_, _++_}
-use borrow.Author.Tests.{eqb-true}
-use lib.Dec.{eqb}
 use Rattle.definition.specs.SyntaxKind.{Kind}
 use Rattle.definition.specs.Tree.{Leaf, Forest, nil, leaf, node}
 use Rattle.definition.specs.Parser.{is, trivia, newline, inline, while, after, peek, push, Reader, wrap, nothing}
 use Rattle.definition.specs.Syntax.{nest, wrapped, pasted, pp-tokens-from, pp-tokens, all-trivia, trimmed, trailing}
-use Rattle.theorems.specs.Rows.{ahead, ended, under, concat-rest, pasting, tokens-rest, row-reader}
+use Rattle.theorems.specs.Rows.{ahead, op-ahead, ended, under, concat-rest, pasting, tokens-rest, row-reader}
 use Rattle.theorems.proofs.Tiling.Leaves.{while-yes, while-stop, after-yes, while-after}
 use Rattle.theorems.proofs.Grammar.Clean.{trivia-inline}
-use Rattle.theorems.proofs.Rows.Ahead.{ahead-trivia, ahead-token, ended-trivia, ended-token, trivia-plain, paste-goes-on, goes-on-inline}
+use Rattle.theorems.proofs.Rows.Ahead.{op-ahead-trivia, op-ahead-token, ended-trivia, ended-token, trivia-plain, op-goes-on, goes-on-inline}
 use Rattle.theorems.proofs.Rows.Cases.{concat-rest-ended, concat-rest-plain, concat-rest-op, pasting-trivia, pasting-op, tokens-rest-ended, tokens-rest-trivia, tokens-rest-plain, tokens-rest-paste, row-paste, row-plain}
 
 -- The row up to the newline without its trailing trivia, and all that stands behind it.
@@ -80,12 +78,6 @@ module _ (t : Leaf) (ts : List Leaf) (e : ended (t ∷ ts) ≡ false) where
   behind-more = rw (line-more, trailing-more t (line ts) not-all, after-yes inline t ts (goes-on-inline t ts e)) refl
 
 -- The look ahead meets a ## of the row itself.
-abbrev pub op-ahead : List Leaf → Bool
-op-ahead ts = eqb (ahead ts) Kind.PP_CONCAT_OP
-
-pub op-goes-on : (ts : List Leaf) → op-ahead ts ≡ true → ended ts ≡ false
-op-goes-on ts k = paste-goes-on ts (eqb-true (ahead ts) Kind.PP_CONCAT_OP k)
-
 pasted-kept : (ts : List Leaf) → pasted (kept ts) ≡ op-ahead ts
 unfolding pasted trimmed while ahead
 pasted-kept [] = refl
@@ -160,11 +152,11 @@ pasting-row (t ∷ ts) k = go (trivia t) refl (pasting-row ts)
 
     go : (b : Bool) → trivia t ≡ b → (op-ahead ts ≡ true → pasting ts ≡ rowed wrapped ts) → pasting (t ∷ ts) ≡ rowed wrapped (t ∷ ts)
     go true q ih =
-        pasting-trivia concat-rest t ts q ∙ ap (push t) (ih (sym (ap (λ n. eqb n Kind.PP_CONCAT_OP) (ahead-trivia t ts q)) ∙ k))
+        pasting-trivia concat-rest t ts q ∙ ap (push t) (ih (sym (op-ahead-trivia t ts q) ∙ k))
         ∙ sym (rowed-more wrapped wrapped (leaf t) t ts e (wrapped-plain t (kept ts) (trivia-plain t q)))
     go false q ih =
         pasting-op concat-rest t ts q ∙ ap (push t) (concat-rest-row ts)
-        ∙ sym (rowed-more wrapped nest (leaf t) t ts e (wrapped-op t (kept ts) (sym (ap (λ n. eqb n Kind.PP_CONCAT_OP) (ahead-token t ts q)) ∙ k)))
+        ∙ sym (rowed-more wrapped nest (leaf t) t ts e (wrapped-op t (kept ts) (sym (op-ahead-token t ts q) ∙ k)))
 
 -- Before the first ##.
 pub tokens-rest-row : (ts : List Leaf) → tokens-rest ts ≡ rowed pp-tokens-from ts
@@ -172,7 +164,8 @@ unfolding pp-tokens-from ended
 tokens-rest-row [] = tokens-rest-ended concat-rest [] refl ∙ sym (rowed-ended pp-tokens-from [] refl refl)
 tokens-rest-row (t ∷ ts) = go (ended (t ∷ ts)) refl (trivia t) refl (op-ahead ts) refl (tokens-rest-row ts)
   where
-    go : (a : Bool) → ended (t ∷ ts) ≡ a → (b : Bool) → trivia t ≡ b → (c : Bool) → op-ahead ts ≡ c → tokens-rest ts ≡ rowed pp-tokens-from ts → tokens-rest (t ∷ ts) ≡ rowed pp-tokens-from (t ∷ ts)
+    go : (a : Bool) → ended (t ∷ ts) ≡ a → (b : Bool) → trivia t ≡ b → (c : Bool) → op-ahead ts ≡ c
+        → tokens-rest ts ≡ rowed pp-tokens-from ts → tokens-rest (t ∷ ts) ≡ rowed pp-tokens-from (t ∷ ts)
     go true e b q c k ih = tokens-rest-ended concat-rest (t ∷ ts) e ∙ sym (rowed-ended pp-tokens-from (t ∷ ts) refl e)
     go false e true q c k ih =
         tokens-rest-trivia concat-rest t ts e q ∙ ap (push t) ih ∙ sym (rowed-more pp-tokens-from pp-tokens-from (leaf t) t ts e (from-trivia t (kept ts) q))

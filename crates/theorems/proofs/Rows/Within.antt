@@ -1,18 +1,16 @@
 -- A row read with an allowance of ## has the leaves, errors and rest of the row read without, and is the same where the allowance suffices.
-use Prim.Native.Nat.{ℕ, zero, suc, _+_, _≤_}
+use Prim.Native.Nat.{ℕ, zero, suc, _≤_}
 use mathlib.Core.Path.{_≡_, refl, ap, sym, _∙_}
 use mathlib.Core.Bool.{Bool, true, false, true≢false}
 use mathlib.Core.List.{List, [], _∷_, _++_, append-nil}
 use native.Mathlib.Omega.{arith}
-use lib.Dec.{eqb}
-use Rattle.definition.specs.Text.{if_then_else_}
 use Rattle.definition.specs.SyntaxKind.{Kind}
 use Rattle.definition.specs.Tree.{Leaf, leaves, concat-ops}
-use Rattle.definition.specs.Parser.{is, trivia, inline, while, Got, push, Reader, wrap, nothing}
-use Rattle.theorems.specs.Rows.{ahead, ended, under, allow, concat-rest, concat-rest-within, pasting-by, tokens-rest-by, row-reader-by, row-reader, row-reader-within, Alike}
-use Rattle.theorems.proofs.Rows.Ahead.{ahead-trivia, ahead-token}
+use Rattle.definition.specs.Parser.{is, trivia, inline, while, Got, push, Reader, wrap}
+use Rattle.theorems.specs.Rows.{ahead, op-ahead, ended, under, concat-rest, concat-rest-within, pasting-by, tokens-rest-by, row-reader-by, row-reader, row-reader-within, Alike}
+use Rattle.theorems.proofs.Rows.Ahead.{op-ahead-trivia, op-ahead-token, op-goes-on}
 use Rattle.theorems.proofs.Rows.Cases.{concat-rest-ended, concat-rest-plain, concat-rest-op, within-ended, within-plain, within-op, pasting-trivia, pasting-op, tokens-rest-ended, tokens-rest-trivia, tokens-rest-plain, tokens-rest-paste, row-paste, row-plain}
-use Rattle.theorems.proofs.Rows.Whole.{line, line-more, op-ahead, op-goes-on}
+use Rattle.theorems.proofs.Rows.Whole.{line, line-more}
 
 -- How many ## a line has, leaf by leaf.
 module _ (t : Leaf) (ts : List Leaf) (e : ended (t ∷ ts) ≡ false) where
@@ -53,18 +51,17 @@ module _
 
         go : (b : Bool) → trivia t ≡ b → (op-ahead ts ≡ true → Q ts → R (pasting-by r ts) (pasting-by s ts)) → R (pasting-by r (t ∷ ts)) (pasting-by s (t ∷ ts))
         go true q ih =
-            let o : op-ahead ts ≡ true = sym (ap (λ n. eqb n Kind.PP_CONCAT_OP) (ahead-trivia t ts q)) ∙ k in
-            rw (pasting-trivia r t ts q, pasting-trivia s t ts q) (c .pushed t _ _ (ih o (behind-leaf t ts e h)))
+            rw (pasting-trivia r t ts q, pasting-trivia s t ts q) (c .pushed t _ _ (ih (sym (op-ahead-trivia t ts q) ∙ k) (behind-leaf t ts e h)))
         go false q ih =
-            let o : is Kind.PP_CONCAT_OP t ≡ true = sym (ap (λ n. eqb n Kind.PP_CONCAT_OP) (ahead-token t ts q)) ∙ k in
-            rw (pasting-op r t ts q, pasting-op s t ts q) (c .pushed t _ _ (behind-op t ts e o h))
+            rw (pasting-op r t ts q, pasting-op s t ts q) (c .pushed t _ _ (behind-op t ts e (sym (op-ahead-token t ts q) ∙ k) h))
 
     tokens-kept : (ts : List Leaf) → Q ts → R (tokens-rest-by r ts) (tokens-rest-by s ts)
     unfolding ended
     tokens-kept [] h = rw (tokens-rest-ended r [] refl, tokens-rest-ended s [] refl) (c .still _)
     tokens-kept (t ∷ ts) h = go (ended (t ∷ ts)) refl (trivia t) refl (op-ahead ts) refl (tokens-kept ts)
       where
-        go : (a : Bool) → ended (t ∷ ts) ≡ a → (b : Bool) → trivia t ≡ b → (d : Bool) → op-ahead ts ≡ d → (Q ts → R (tokens-rest-by r ts) (tokens-rest-by s ts)) → R (tokens-rest-by r (t ∷ ts)) (tokens-rest-by s (t ∷ ts))
+        go : (a : Bool) → ended (t ∷ ts) ≡ a → (b : Bool) → trivia t ≡ b → (d : Bool) → op-ahead ts ≡ d
+            → (Q ts → R (tokens-rest-by r ts) (tokens-rest-by s ts)) → R (tokens-rest-by r (t ∷ ts)) (tokens-rest-by s (t ∷ ts))
         go true e b q d k ih = rw (tokens-rest-ended r (t ∷ ts) e, tokens-rest-ended s (t ∷ ts) e) (c .still _)
         go false e true q d k ih = rw (tokens-rest-trivia r t ts e q, tokens-rest-trivia s t ts e q) (c .pushed t _ _ (ih (behind-leaf t ts e h)))
         go false e false q true k ih =
@@ -136,7 +133,8 @@ unfolding ended
 within-alike a [] = rw (within-ended a [] refl, concat-rest-ended [] refl) (alike-kept .still _)
 within-alike a (t ∷ ts) = go (ended (t ∷ ts)) refl (is Kind.PP_CONCAT_OP t) refl a (λ b. within-alike b ts)
   where
-    go : (x : Bool) → ended (t ∷ ts) ≡ x → (y : Bool) → is Kind.PP_CONCAT_OP t ≡ y → (a : ℕ) → ((b : ℕ) → Alike (concat-rest-within b ts) (concat-rest ts)) → Alike (concat-rest-within a (t ∷ ts)) (concat-rest (t ∷ ts))
+    go : (x : Bool) → ended (t ∷ ts) ≡ x → (y : Bool) → is Kind.PP_CONCAT_OP t ≡ y → (a : ℕ)
+        → ((b : ℕ) → Alike (concat-rest-within b ts) (concat-rest ts)) → Alike (concat-rest-within a (t ∷ ts)) (concat-rest (t ∷ ts))
     go true e y q a ih = rw (within-ended a (t ∷ ts) e, concat-rest-ended (t ∷ ts) e) (alike-kept .still _)
     go false e true q zero ih = rw (within-op zero t ts e q, concat-rest-op t ts e q) (alike-plain t _ _ (ih zero))
     go false e true q (suc b) ih = rw (within-op (suc b) t ts e q, concat-rest-op t ts e q) (alike-kept .noded _ _ _ (alike-kept .pushed t _ _ (ih b)))
