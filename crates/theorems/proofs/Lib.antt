@@ -7,5 +7,6 @@ pub mod Left
 pub mod Lexing
 pub mod Refusals
 pub mod Replay
+pub mod Rows
 pub mod Tiling
 pub mod Worked

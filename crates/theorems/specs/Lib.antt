@@ -1,4 +1,5 @@
 pub mod Placed
+pub mod Rows
 pub mod Walk
 pub mod Step
 pub mod Demand3

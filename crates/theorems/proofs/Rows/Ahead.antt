@@ -1,0 +1,104 @@
+-- The look ahead over trivia: what the kind that it meets says of a row.
+use mathlib.Core.Path.{_≡_, refl, ap, sym, _∙_}
+use mathlib.Core.Bool.{Bool, true, false, not, true≢false}
+use mathlib.Core.List.{List, [], _∷_}
+use borrow.Author.Tests.{eq-eqb, ne-eqb, eqb-true}
+use native.Mathlib.Omega.{arith}
+use Rattle.definition.specs.SyntaxKind.{Kind}
+use Rattle.definition.specs.Tree.{Leaf}
+use Rattle.definition.specs.Parser.{is, trivia, newline, inline}
+use Rattle.definition.specs.Syntax.{pasted}
+use Rattle.theorems.specs.Rows.{ahead, ends, op-ahead, ended, Known}
+use Rattle.theorems.proofs.Grammar.Clean.{of-kind, trivia-inline}
+
+-- One equation a case.
+module _ (t : Leaf) (ts : List Leaf) where
+  pub ahead-trivia : trivia t ≡ true → ahead (t ∷ ts) ≡ ahead ts
+  unfolding ahead
+  ahead-trivia e = rw (e, ahead)
+
+  pub ahead-token : trivia t ≡ false → ahead (t ∷ ts) ≡ t .kind
+  unfolding ahead
+  ahead-token e = rw (e, ahead)
+
+  pub op-ahead-trivia : trivia t ≡ true → op-ahead (t ∷ ts) ≡ op-ahead ts
+  op-ahead-trivia e = rw (ahead-trivia e) refl
+
+  pub op-ahead-token : trivia t ≡ false → op-ahead (t ∷ ts) ≡ is Kind.PP_CONCAT_OP t
+  op-ahead-token e = rw (ahead-token e) refl
+
+  pub ended-trivia : trivia t ≡ true → ended (t ∷ ts) ≡ ended ts
+  unfolding ended
+  ended-trivia e = rw (e, ended)
+
+  pub ended-token : trivia t ≡ false → ended (t ∷ ts) ≡ newline t
+  unfolding ended
+  ended-token e = rw (e, ended)
+
+-- Trivia is no ##.
+pub trivia-plain : (t : Leaf) → trivia t ≡ true → is Kind.PP_CONCAT_OP t ≡ false
+trivia-plain t e = go (is Kind.PP_CONCAT_OP t) refl
+  where
+    go : (b : Bool) → is Kind.PP_CONCAT_OP t ≡ b → is Kind.PP_CONCAT_OP t ≡ false
+    go true q = absurd (true≢false (sym (rw (of-kind t q) at e)))
+    go false q = q
+
+-- A kind that is not 0 says whether the row has ended; 0 says so where every leaf has a kind.
+pub ended-newline : (ts : List Leaf) → ahead ts ≡ Kind.NEWLINE → ended ts ≡ true
+unfolding ended
+ended-newline [] e = refl
+ended-newline (t ∷ ts) e = go (trivia t) refl (ended-newline ts)
+  where
+    go : (b : Bool) → trivia t ≡ b → (ahead ts ≡ Kind.NEWLINE → ended ts ≡ true) → ended (t ∷ ts) ≡ true
+    go true q ih = ended-trivia t ts q ∙ ih (sym (ahead-trivia t ts q) ∙ e)
+    go false q ih = ended-token t ts q ∙ eq-eqb _ _ (sym (ahead-token t ts q) ∙ e)
+
+pub ended-none : (ts : List Leaf) → Known ts → ahead ts ≡ 0 → ended ts ≡ true
+unfolding ended Known
+ended-none [] n e = refl
+ended-none (t ∷ ts) n e = go (trivia t) refl (ended-none ts (n .1))
+  where
+    go : (b : Bool) → trivia t ≡ b → (ahead ts ≡ 0 → ended ts ≡ true) → ended (t ∷ ts) ≡ true
+    go true q ih = ended-trivia t ts q ∙ ih (sym (ahead-trivia t ts q) ∙ e)
+    go false q ih = absurd (n .0 (sym (ahead-token t ts q) ∙ e))
+
+pub more-ahead : (ts : List Leaf) → (ahead ts ≡ 0 → ⊥) → (ahead ts ≡ Kind.NEWLINE → ⊥) → ended ts ≡ false
+unfolding ahead
+more-ahead [] z n = absurd (z refl)
+more-ahead (t ∷ ts) z n = go (trivia t) refl (more-ahead ts)
+  where
+    go : (b : Bool) → trivia t ≡ b → ((ahead ts ≡ 0 → ⊥) → (ahead ts ≡ Kind.NEWLINE → ⊥) → ended ts ≡ false) → ended (t ∷ ts) ≡ false
+    go true q ih = ended-trivia t ts q ∙ ih (λ e. z (ahead-trivia t ts q ∙ e)) (λ e. n (ahead-trivia t ts q ∙ e))
+    go false q ih = ended-token t ts q ∙ ne-eqb _ _ (λ e. n (ahead-token t ts q ∙ e))
+
+pub ends-ended : (ts : List Leaf) → Known ts → ends (ahead ts) ≡ ended ts
+unfolding ahead ended Known
+ends-ended [] n = refl
+ends-ended (t ∷ ts) n = go (trivia t) refl (ends-ended ts (n .1))
+  where
+    go : (b : Bool) → trivia t ≡ b → ends (ahead ts) ≡ ended ts → ends (ahead (t ∷ ts)) ≡ ended (t ∷ ts)
+    go true q ih = rw (ahead-trivia t ts q, ended-trivia t ts q) ih
+    go false q ih = rw (ahead-token t ts q, ended-token t ts q, ne-eqb (t .kind) 0 (n .0)) refl
+
+-- The definition's test for a ##, and that a row with one ahead has not ended.
+pub pasted-ahead : (ts : List Leaf) → pasted ts ≡ op-ahead ts
+unfolding pasted ahead
+pasted-ahead [] = refl
+pasted-ahead (t ∷ ts) = go (trivia t) refl (pasted-ahead ts)
+  where
+    go : (b : Bool) → trivia t ≡ b → pasted ts ≡ op-ahead ts → pasted (t ∷ ts) ≡ op-ahead (t ∷ ts)
+    go true q ih = rw (q, pasted, ahead) ih
+    go false q ih = rw (q, pasted, ahead) refl
+
+pub op-goes-on : (ts : List Leaf) → op-ahead ts ≡ true → ended ts ≡ false
+op-goes-on ts k =
+    let e : ahead ts ≡ Kind.PP_CONCAT_OP = eqb-true (ahead ts) Kind.PP_CONCAT_OP k in
+    more-ahead ts (rw e (λ h. omega arith)) (rw e (λ h. omega arith))
+
+-- A leaf of a row that has not ended is no newline.
+pub goes-on-inline : (t : Leaf) (ts : List Leaf) → ended (t ∷ ts) ≡ false → inline t ≡ true
+goes-on-inline t ts e = go (trivia t) refl
+  where
+    go : (b : Bool) → trivia t ≡ b → inline t ≡ true
+    go true q = trivia-inline t q
+    go false q = ap not (sym (ended-token t ts q) ∙ e)
