@@ -1,0 +1,48 @@
+-- What is seen is what is left where the lexer stands.
+use Prim.Native.Nat.{ℕ, _≤_}
+use mathlib.Core.Path.{_≡_, refl, sym, ap, _∙_}
+use mathlib.Core.Bool.{Bool, true, false}
+use mathlib.Core.List.{List, [], _∷_}
+use borrow.Author.Tests.{ne-eqb}
+use native.Mathlib.Omega.{arith}
+use mir.Val.{Fits}
+use mir.Syntax.{w32}
+use lib.Dec.{eqb}
+use lib.ListN.{length}
+use Rattle.definition.specs.Text.{if_then_else_, Kind}
+use Rattle.definition.specs.Calls.{longest-source}
+use Rattle.theorems.specs.Step.{Stepped}
+use Rattle.theorems.specs.Left.{left, leaf-kind}
+use Rattle.theorems.proofs.Left.{left-step, left-over, stop-between}
+use Rattle.glue.specs.declared.Step.{Step}
+use Rattle.glue.specs.declared.Next.{Next}
+use Rattle.glue.specs.declared.Next.the-variants.{Token, End}
+use Rattle.glue.specs.Next.{Nexts}
+use Rattle.parser.specs.Rest.{rest-of, Held, Sees}
+
+-- A leaf's kind is not 0.
+some-leaf : (k : ℕ) → (k ≡ 0 → ⊥) → leaf-kind k ≡ 0 → ⊥
+some-leaf k h = go (eqb k Kind.LINECONT) refl
+  where
+    go : (b : Bool) → eqb k Kind.LINECONT ≡ b → (if b then Kind.WS else k) ≡ 0 → ⊥
+    go true e z = absurd (omega arith)
+    go false e z = h z
+
+module _ (src : List ℕ) (at : ℕ) (angle : Bool) (x : Next) (y : Nexts src (record { input = record { at = at; angle = angle } }) x) where
+  module _ (r : Step) (q : x ≡ Token r) where
+    stepped : Stepped src at angle (r .kind) (r .next .input .at) (r .next .input .angle)
+    unfolding Nexts
+    stepped = rw q at y
+
+    pub end-fits : length src ≤ longest-source → Fits w32 (r .next .input .at)
+    end-fits h = omega (arith, stepped .within)
+
+    pub seen-token : (k : ℕ) → k ≡ leaf-kind (r .kind) → Sees src at angle (record { kind = k; start = at; end = r .next .input .at; angle = r .next .input .angle })
+    unfolding rest-of Held
+    seen-token k e =
+        let z : eqb k 0 ≡ false = ne-eqb k 0 (λ w. some-leaf (r .kind) (stepped .some-kind) (sym e ∙ w)) in
+        record { rest = rw (z, e) (sym (left-step src _ _ _ _ _ stepped)); held = λ h. stop-between src _ _ _ _ _ stepped }
+
+  pub seen-end : x ≡ End → Sees src at angle (record { kind = 0; start = at; end = at; angle = angle })
+  unfolding Nexts rest-of Held
+  seen-end q = record { rest = sym (left-over src at angle (rw q at y)); held = λ h. absurd (h refl) }

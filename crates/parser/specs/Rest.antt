@@ -1,0 +1,49 @@
+-- What is left to read, and what a function promises that takes leaves.
+use Prim.Native.Nat.{ℕ, _≤_}
+use mathlib.Core.Path.{_≡_}
+use mathlib.Core.Bool.{Bool, _||_}
+use mathlib.Core.List.{List, [], _∷_}
+use lib.Dec.{eqb}
+use lib.ListN.{length}
+use lib.Seq.{slice}
+use Rattle.definition.specs.Text.{if_then_else_, Kind}
+use Rattle.definition.specs.Tree.{Leaf, leaves, stop}
+use Rattle.definition.specs.Parser.{Reader}
+use Rattle.definition.specs.Calls.{longest-source}
+use Rattle.theorems.specs.Left.{left}
+use Rattle.pre.specs.Table.{class-table}
+use Rattle.tree.specs.Machine.{sheet, leafs}
+use Rattle.parser.specs.declared.Seen.{Seen}
+use Rattle.parser.specs.declared.Run.{Run}
+
+-- The leaf that is seen,
+abbrev pub leaf-seen : List ℕ → Seen → Leaf
+leaf-seen src s = record { kind = s .kind; start = s .start; bytes = slice (s .start) (s .end) src }
+
+-- and those after it; none at the end.
+unfoldable pub rest-of : List ℕ → Seen → List Leaf
+rest-of src s = if eqb (s .kind) 0 then [] else leaf-seen src s ∷ left src (s .end) (s .angle)
+
+-- The leaf that is seen ends where it is said to end.
+unfoldable pub Held : List ℕ → Seen → Type 0
+Held src s = (s .kind ≡ 0 → ⊥) → stop (leaf-seen src s) ≡ s .end
+
+-- What is seen from a place on.
+pub record Sees (src : List ℕ) (at : ℕ) (angle : Bool) (s : Seen) : Type 0 where
+  pub rest : rest-of src s ≡ left src at angle
+  pub held : Held src s
+
+abbrev pub trivial : ℕ → Bool  -- Blanks, comments and continuations, which are WS leaves.
+trivial k = eqb k Kind.WS || eqb k Kind.COMMENT
+
+-- What every function here asks: the table of classes, a source that is not refused for its length, and a leaf that is held.
+pub record Reading (src classes : List ℕ) (s : Seen) : Type 0 where
+  pub table : classes ≡ class-table
+  pub short : length src ≤ longest-source
+  pub held : Held src s
+
+-- A call that takes leaves as a reader does, without nodes or errors.
+pub record Takes (src : List ℕ) (p : Reader) (t : List ℕ) (r : Run) (t′ : List ℕ) (r′ : Run) : Type 0 where
+  pub tree : sheet t′ (r′ .pen) ≡ leafs (sheet t (r .pen)) (leaves (p (rest-of src (r .seen)) .tree))
+  pub rest : rest-of src (r′ .seen) ≡ p (rest-of src (r .seen)) .rest
+  pub held : Held src (r′ .seen)

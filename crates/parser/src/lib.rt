@@ -1,0 +1,117 @@
+// The parser's hold on its leaves: the one that is seen, taking it, and passing over trivia (`parser.rs`).
+use glue::Lexer;
+use glue::Next;
+use pre::PreLexer;
+use syntax_kind::kind::Kind;
+use tree::Pen;
+ghost use mathlib.Core.Path.{_≡_};
+ghost use Prim.Native.Nat.{_≤_};
+ghost use lib.ListN.{length};
+ghost use Rattle.definition.specs.Calls.{longest-source};
+ghost use Rattle.definition.specs.Parser as reader;
+ghost use Rattle.theorems.specs.Left.{leaf-kind};
+ghost use Rattle.pre.specs.Table.{class-table};
+ghost use Rattle.parser.specs.Rest.{Sees, trivial, Reading, Takes};
+
+// The leaf that is seen: its kind, 0 at the end of the source, its range, and whether an angle string is expected behind it.
+pub struct Seen {
+    pub kind: u8,
+    pub start: u32,
+    pub end: u32,
+    pub angle: bool,
+}
+
+// What has been read: the leaf that is seen, and where the tree writer stands.
+pub struct Run {
+    pub seen: Seen,
+    pub pen: Pen,
+}
+
+// The kind of a token as a leaf: a continuation becomes a WS leaf.
+fn leaf_kind(kind: u8) -> u8
+    ensures { λ r. ⌜ r ≡ leaf-kind kind ⌝ }
+{
+    if kind == Kind::LINECONT {
+        return Kind::WS;
+    }
+    kind
+}
+
+// Sees the first leaf from a place on.
+pub fn see(src: &[u8], classes: &[u8; 256], at: u32, angle: bool) -> Seen
+    requires { ⌜ (now classes ≡ class-table) × (length (now src) ≤ longest-source) ⌝ }
+    ensures { λ r. ⌜ Sees (now (src .entry)) at angle r ⌝ }
+{
+    let lexer = Lexer {
+        input: PreLexer {
+            at: at as usize,
+            angle,
+        },
+    };
+    match lexer.next(src, classes) {
+        Next::Token(step) => {
+            let next = step.next;
+            let input = next.input;
+            let end = input.at;
+            Seen {
+                kind: leaf_kind(step.kind),
+                start: at,
+                end: end as u32,
+                angle: input.angle,
+            }
+        }
+        Next::End => Seen {
+            kind: 0,
+            start: at,
+            end: at,
+            angle,
+        },
+    }
+}
+
+// A kind as a number of a table.
+fn wide(kind: u8) -> u32
+    ensures { λ r. ⌜ r ≡ kind ⌝ }
+{
+    kind as u32
+}
+
+// Takes the leaf that is seen, if there is one, and sees the next.
+pub fn bump(src: &[u8], classes: &[u8; 256], table: &mut [u32], run: Run) -> Run
+    requires { ⌜ Reading (now src) (now classes) (run .seen) ⌝ }
+    ensures { λ r. ⌜ Takes (now (src .entry)) reader.bump (now (table .entry)) run (now (table .exit)) r ⌝ }
+{
+    let seen = run.seen;
+    if seen.kind == 0 {
+        return run;
+    }
+    let pen = tree::leaf(table, run.pen, wide(seen.kind), seen.start, seen.end);
+    let next = see(src, classes, seen.end, seen.angle);
+    Run { seen: next, pen }
+}
+
+// Whether a kind is that of trivia.
+pub fn is_trivia(kind: u8) -> bool
+    ensures { λ r. ⌜ r ≡ trivial kind ⌝ }
+{
+    if kind == Kind::WS {
+        return true;
+    }
+    kind == Kind::COMMENT
+}
+
+// Takes the trivia that comes next.
+pub fn skip_trivia(src: &[u8], classes: &[u8; 256], table: &mut [u32], run: Run) -> Run
+    requires { ⌜ Reading (now src) (now classes) (run .seen) ⌝ }
+    ensures { λ r. ⌜ Takes (now (src .entry)) reader.skip-trivia (now (table .entry)) run (now (table .exit)) r ⌝ }
+{
+    let mut held = run;
+    loop {
+        let seen = held.seen;
+        if is_trivia(seen.kind) {
+            held = bump(src, classes, table, held);
+        } else {
+            return held;
+        }
+    }
+}
