@@ -1,4 +1,6 @@
 // The error log: errors as they are met, written into a lent table of ten numbers each (error.rs).
+pub mod lines;
+
 use tree::entry::FAR;
 ghost use mathlib.Core.Path.{_≡_};
 ghost use Prim.Native.Nat.{_-_};
