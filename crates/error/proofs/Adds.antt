@@ -1,5 +1,5 @@
 -- Errors added one after the other: all of them fit, or not all.
-use Prim.Native.Nat.{ℕ, suc, _+_, _-_, _*_, _≤_, _<_}
+use Prim.Native.Nat.{ℕ, suc, _+_, _-_, _*_, _/_, _≤_, _<_}
 use mathlib.Core.Path.{_≡_, refl, ap, sym, _∙_}
 use mathlib.Core.Bool.{true, false}
 use mathlib.Core.List.{List, [], _∷_}
@@ -19,7 +19,7 @@ use Rattle.tree.specs.Machine.{far}
 use Rattle.tree.specs.Writes.{Stands, within, past}
 use Rattle.tree.proofs.Sets.{sets-append}
 use Rattle.error.specs.declared.Fault.{Fault}
-use Rattle.error.specs.Log.{Offset, fault-of, unplaced, numbers, Log, log, fits, add, adds}
+use Rattle.error.specs.Log.{Offset, fault-of, unlocated, numbers, Log, log, fits, add, adds}
 
 -- One error, with room for it or without.
 module _ (t : List ℕ) (n : ℕ) where
@@ -52,7 +52,7 @@ module _ (t : List ℕ) (n rest : ℕ) (q : rest ≡ length t - n) (e : Fault) w
   pub push-in : Width.error ≤ rest
       → log
       (set (set (set (set (set (set (set (set (set (set t n (e .sort)) (n + Offset.start) (e .start)) (n + Offset.end) (e .end))
-      (n + Offset.line) unplaced) (n + Offset.column) unplaced) (n + Offset.actual) (e .actual)) (n + Offset.expected1) (e .expected1))
+      (n + Offset.line) unlocated) (n + Offset.column) unlocated) (n + Offset.actual) (e .actual)) (n + Offset.expected1) (e .expected1))
       (n + Offset.expected2) (e .expected2)) (n + Offset.first) (e .first)) (n + Offset.past) (e .past))
       (n + Width.error)
       ≡ add e (log t n)
@@ -80,12 +80,12 @@ adds-far t (e ∷ es) h =
     rw (add-out t far (fault-of e) r) (adds-far t es h)
 
 -- The numbers of errors whose lines and columns are left 0 are those under no line table.
-abbrev pub unplaced-numbers : List Err → List ℕ
-unplaced-numbers es = error-numbers [] es
+abbrev pub unlocated-numbers : List Err → List ℕ
+unlocated-numbers es = error-numbers [] es
 
 -- All errors fit, and their numbers stand there in a row;
 pub adds-whole : (t : List ℕ) (n : ℕ) (es : List Err) → n + Width.error * length es ≤ length t
-    → adds (log t n) es ≡ log (sets t n (unplaced-numbers es)) (n + Width.error * length es)
+    → adds (log t n) es ≡ log (sets t n (unlocated-numbers es)) (n + Width.error * length es)
 unfolding adds error-numbers get-line-and-col last-line
 adds-whole t n [] h = rw (add-zero n)
 adds-whole t n (e ∷ es) h =
@@ -95,7 +95,7 @@ adds-whole t n (e ∷ es) h =
     let l : length (sets t n (numbers f)) ≡ length t = length-sets t n (numbers f) in
     rw (add-in t n f r)
     (adds-whole (sets t n (numbers f)) (n + Width.error) es (omega arith)
-    ∙ rw (sets-append t n (numbers f) (unplaced-numbers es), m))
+    ∙ rw (sets-append t n (numbers f) (unlocated-numbers es), m))
 
 -- or they don't, and the place is the far one.
 pub adds-lost : (t : List ℕ) (n : ℕ) (es : List Err) → length t ≤ far → Stands t n → length t < n + Width.error * length es
@@ -124,10 +124,14 @@ module _ (room : ℕ) (es : List Err) where
   long : length (zeros room) ≡ room
   long = length-replicate room 0
 
-  pub cleared-whole : length (unplaced-numbers es) ≤ room
-      → adds (log (zeros room) 0) es ≡ log (padded (unplaced-numbers es) room) (length (unplaced-numbers es))
+  pub cleared-whole : length (unlocated-numbers es) ≤ room
+      → adds (log (zeros room) 0) es ≡ log (padded (unlocated-numbers es) room) (length (unlocated-numbers es))
   cleared-whole h =
-      adds-whole (zeros room) 0 es (omega (arith, many [], long)) ∙ rw (written-padded (unplaced-numbers es) room h, many [])
+      adds-whole (zeros room) 0 es (omega (arith, many [], long)) ∙ rw (written-padded (unlocated-numbers es) room h, many [])
 
-  pub cleared-lost : room ≤ far → room < length (unplaced-numbers es) → adds (log (zeros room) 0) es .n ≡ far
+  pub cleared-lost : room ≤ far → room < length (unlocated-numbers es) → adds (log (zeros room) 0) es .n ≡ far
   cleared-lost b h = adds-lost (zeros room) 0 es (omega (arith, long)) (within (omega arith)) (omega (arith, many [], long))
+
+  -- The place behind them tells how many they are.
+  pub cleared-count : length (unlocated-numbers es) ≤ room → adds (log (zeros room) 0) es .n / Width.error ≡ length es
+  cleared-count h = ap (λ l. l .n / Width.error) (cleared-whole h) ∙ omega (arith, many [])

@@ -13,21 +13,21 @@ use Rattle.theorems.proofs.Refusals.{length-errors}
 use Rattle.text.proofs.Tables.{zeros}
 use Rattle.tree.proofs.Sets.{set-right}
 use Rattle.error.specs.Log.{Offset, log, adds}
-use Rattle.error.specs.Lines.{placed, resolved}
-use Rattle.error.proofs.Adds.{unplaced-numbers, cleared-whole}
-use Rattle.error.proofs.Resolving.{placed-in}
+use Rattle.error.specs.Lines.{located, resolved}
+use Rattle.error.proofs.Adds.{unlocated-numbers, cleared-whole}
+use Rattle.error.proofs.Resolving.{located-in}
 
 module _ (lines old : List ℕ) where
   -- One error behind a front part a.
-  placed-at : (a z : List ℕ) (e : Err) (es : List Err)
-      → placed lines (a ++ (error-numbers old (e ∷ es) ++ z)) (length a) ≡ a ++ (error-numbers lines (e ∷ []) ++ (error-numbers old es ++ z))
+  located-at : (a z : List ℕ) (e : Err) (es : List Err)
+      → located lines (a ++ (error-numbers old (e ∷ es) ++ z)) (length a) ≡ a ++ (error-numbers lines (e ∷ []) ++ (error-numbers old es ++ z))
   unfolding error-numbers
-  placed-at a z e es =
+  located-at a z e es =
       let b : List ℕ = error-numbers old (e ∷ es) ++ z in
       let l : length (a ++ b) ≡ length a + length b = length-append a b in
       let s : getD (a ++ b) (length a + Offset.start) 0 ≡ e .start = getD-append-add a b Offset.start 0 in
       let at : LineCol = get-line-and-col lines (e .start) in
-      placed-in lines (a ++ b) (length a) (omega arith)
+      located-in lines (a ++ b) (length a) (omega arith)
       ∙ rw s
       (ap (λ t. set t (length a + Offset.column) (at .column)) (set-right a b Offset.line (at .line))
       ∙ set-right a (set b Offset.line (at .line)) Offset.column (at .column))
@@ -39,8 +39,8 @@ module _ (lines old : List ℕ) where
   resolved-row a z n (e ∷ es) h =
       let x : List ℕ = error-numbers lines (e ∷ []) in
       let m : length (a ++ x) ≡ n + Width.error = length-append a x ∙ rw h in
-      ap (λ k. resolved lines (placed lines (a ++ (error-numbers old (e ∷ es) ++ z)) k) (n + Width.error) (length es)) (sym h)
-      ∙ ap (λ t. resolved lines t (n + Width.error) (length es)) (placed-at a z e es ∙ sym (append-assoc a x (error-numbers old es ++ z)))
+      ap (λ k. resolved lines (located lines (a ++ (error-numbers old (e ∷ es) ++ z)) k) (n + Width.error) (length es)) (sym h)
+      ∙ ap (λ t. resolved lines t (n + Width.error) (length es)) (located-at a z e es ∙ sym (append-assoc a x (error-numbers old es ++ z)))
       ∙ resolved-row (a ++ x) z (n + Width.error) es m
       ∙ append-assoc a x (error-numbers lines es ++ z)
 
@@ -56,5 +56,5 @@ module _ (lines old : List ℕ) where
 pub cleared-resolved : (lines : List ℕ) (room : ℕ) (es : List Err) → length (error-numbers lines es) ≤ room
     → resolved lines (adds (log (zeros room) 0) es .table) 0 (length es) ≡ padded (error-numbers lines es) room
 cleared-resolved lines room es h =
-    let b : length (unplaced-numbers es) ≤ room = omega (arith, length-errors lines es, length-errors [] es) in
+    let b : length (unlocated-numbers es) ≤ room = omega (arith, length-errors lines es, length-errors [] es) in
     ap (λ l. resolved lines (l .table) 0 (length es)) (cleared-whole room es b) ∙ resolved-padded lines [] es room

@@ -120,7 +120,7 @@ module _ (lines : List ℕ) (count offset : ℕ) (s : Starts lines count) where
         = λ m. let n : suc low < count = omega (arith, long) in
         rw (getD-take count lines (suc low) 0 n, ← j) (k .above (omega arith)) in
         record {
-          place-is = line-is xs low offset (s .rising) i l g ∙ rw e;
+          found-is = line-is xs low offset (s .rising) i l g ∙ rw e;
           within = omega (arith, s .within);
           not-above = k .not-above;
           few = omega (arith, least xs low (s .rising) i);

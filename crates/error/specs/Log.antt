@@ -29,12 +29,12 @@ fault-of e = record {
 }
 
 -- The line and the column of an error before they are filled in.
-abbrev pub unplaced : ℕ
-unplaced = 0
+abbrev pub unlocated : ℕ
+unlocated = 0
 
 abbrev pub numbers : Fault → List ℕ  -- The numbers of one error.
 numbers e =
-    e .sort ∷ e .start ∷ e .end ∷ unplaced ∷ unplaced
+    e .sort ∷ e .start ∷ e .end ∷ unlocated ∷ unlocated
     ∷ e .actual ∷ e .expected1 ∷ e .expected2 ∷ e .first ∷ e .past ∷ []
 
 -- The error table, and the place of its next error.

@@ -3,8 +3,9 @@ pub mod lines;
 
 use tree::entry::FAR;
 ghost use mathlib.Core.Path.{_≡_};
-ghost use Prim.Native.Nat.{_-_};
+ghost use Prim.Native.Nat.{_-_, _/_};
 ghost use lib.ListN.{length};
+ghost use Rattle.definition.specs.Tree.{Width};
 ghost use Rattle.error.specs.Log.{log, add};
 
 // How many numbers an error has, and where each stands behind the first, its sort.
@@ -29,7 +30,7 @@ const FIRST: usize = 8;
 const PAST: usize = 9;
 
 // The line and the column of an error before they are filled in.
-const UNPLACED: u32 = 0;
+const UNLOCATED: u32 = 0;
 
 // An error as it is met: its sort, its range, the actual kind, up to two expected kinds, and the range of a name; 0 where there is none.
 pub struct Fault {
@@ -61,8 +62,8 @@ pub fn push_error(table: &mut [u32], n: usize, e: Fault) -> usize
         table[n] = e.sort;
         table[n + START] = e.start;
         table[n + END] = e.end;
-        table[n + LINE] = UNPLACED;
-        table[n + COLUMN] = UNPLACED;
+        table[n + LINE] = UNLOCATED;
+        table[n + COLUMN] = UNLOCATED;
         table[n + ACTUAL] = e.actual;
         table[n + EXPECTED1] = e.expected1;
         table[n + EXPECTED2] = e.expected2;
@@ -71,4 +72,11 @@ pub fn push_error(table: &mut [u32], n: usize, e: Fault) -> usize
         return n + WIDTH;
     }
     FAR
+}
+
+// How many errors lie before the place n.
+pub fn count(n: usize) -> usize
+    ensures { λ r. ⌜ r ≡ n / Width.error ⌝ }
+{
+    n / WIDTH
 }

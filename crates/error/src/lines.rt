@@ -5,8 +5,10 @@ use crate::START;
 use crate::WIDTH;
 use crate::rest;
 ghost use mathlib.Core.Path.{_≡_};
-ghost use lib.ListN.{take};
-ghost use Rattle.error.specs.Lines.{Starts, Found, placed, resolved};
+ghost use Prim.Native.Nat.{_+_, _≤_};
+ghost use lib.ListN.{length, take};
+ghost use Rattle.definition.specs.Tree.{Width};
+ghost use Rattle.error.specs.Lines.{Starts, Found, located, resolved};
 
 // The line of an offset by binary search: the last of the first `count` line starts that is not above it.
 fn search(lines: &[u32], count: usize, offset: u32) -> usize
@@ -26,14 +28,12 @@ fn search(lines: &[u32], count: usize, offset: u32) -> usize
     low
 }
 
-// Fills in the line and the column of the error at n, if the table has one.
-fn place(errors: &mut [u32], n: usize, lines: &[u32], used: usize)
+// Fills in the line and the column of the error at n.
+fn locate(errors: &mut [u32], n: usize, lines: &[u32], used: usize)
+    requires { ⌜ n + Width.error ≤ length (now errors) ⌝ }
     requires { ⌜ Starts (now lines) used ⌝ }
-    ensures { λ _. ⌜ now (errors .exit) ≡ placed (take used (now (lines .entry))) (now (errors .entry)) n ⌝ }
+    ensures { λ _. ⌜ now (errors .exit) ≡ located (take used (now (lines .entry))) (now (errors .entry)) n ⌝ }
 {
-    if rest(errors, n) < WIDTH {
-        return;
-    }
     let start = errors[n + START];
     let line = search(lines, used, start);
     errors[n + LINE] = line as u32;
@@ -51,7 +51,7 @@ pub fn resolve(errors: &mut [u32], count: usize, lines: &[u32], used: usize)
         if rest(errors, n) < WIDTH {
             return;
         }
-        place(errors, n, lines, used);
+        locate(errors, n, lines, used);
         n += WIDTH;
         left -= 1;
     }

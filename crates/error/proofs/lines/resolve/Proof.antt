@@ -23,7 +23,7 @@ resolve-spec =
     (λ c κs. search cases)
     (λ c. search cases)
     (λ c. search (full, cases))
-    (λ c κs. search cases)
+    (λ c κs. (search cases, search cases))
     (λ c. search cases)
     (λ c. search cases)
     (λ c. search cases)
