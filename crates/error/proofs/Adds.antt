@@ -132,6 +132,19 @@ module _ (room : ℕ) (es : List Err) where
   pub cleared-lost : room ≤ far → room < length (unlocated-numbers es) → adds (log (zeros room) 0) es .n ≡ far
   cleared-lost b h = adds-lost (zeros room) 0 es (omega (arith, long)) (within (omega arith)) (omega (arith, many [], long))
 
-  -- The place behind them tells how many they are.
+  -- So the place behind them tells whether they fit, under whatever line table, and how many they are.
+  module _ (lines : List ℕ) where
+    pub short-when-far : adds (log (zeros room) 0) es .n ≡ far → room < length (error-numbers lines es)
+    short-when-far e = elim (decLe (length (unlocated-numbers es)) room) [
+      | yes h ↦ absurd (omega (arith, e, ap (λ l. l .n) (cleared-whole h), length-errors [] es))
+      | no h ↦ omega (arith, length-errors [] es, length-errors lines es)
+    ]
+
+    pub fits-unless-far : room ≤ far → (adds (log (zeros room) 0) es .n ≡ far → ⊥) → length (error-numbers lines es) ≤ room
+    fits-unless-far b d = elim (decLe (length (unlocated-numbers es)) room) [
+      | yes h ↦ omega (arith, length-errors [] es, length-errors lines es)
+      | no h ↦ absurd (d (cleared-lost b (omega arith)))
+    ]
+
   pub cleared-count : length (unlocated-numbers es) ≤ room → adds (log (zeros room) 0) es .n / Width.error ≡ length es
   cleared-count h = ap (λ l. l .n / Width.error) (cleared-whole h) ∙ omega (arith, many [])

@@ -7,10 +7,10 @@ use mir.Val.{Fits}
 use mir.Syntax.{w32}
 use lib.ListN.{length, take, getD, set, length-set}
 use Rattle.definition.specs.Tree.{Width}
+use Rattle.definition.specs.LineMap.{get-line-and-col}
 use Rattle.error.specs.Log.{Offset}
 use Rattle.error.specs.Lines.{Found, located, resolved}
 use Rattle.error.proofs.Adds.{Room, inside, outside, room?, fits-in, fits-out}
-use Rattle.definition.specs.LineMap.{get-line-and-col}
 
 -- One error, if the table has one at n.
 module _ (lines t : List ℕ) (n : ℕ) where

@@ -36,8 +36,9 @@ fn locate(errors: &mut [u32], n: usize, lines: &[u32], used: usize)
 {
     let start = errors[n + START];
     let line = search(lines, used, start);
+    let begin = lines[line];
     errors[n + LINE] = line as u32;
-    errors[n + COLUMN] = start - lines[line];
+    errors[n + COLUMN] = start - begin;
 }
 
 // Fills in the lines and the columns of the first `count` errors from the first `used` line starts.
