@@ -1,0 +1,5 @@
+pub mod Adds
+pub mod Searching
+pub mod Resolving
+pub mod Resolved
+pub mod Starting
