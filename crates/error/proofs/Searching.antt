@@ -3,7 +3,7 @@ use Prim.Native.Nat.{ℕ, zero, suc, _+_, _-_, _/_, _≤_, _<_}
 use native.Mathlib.Nat.{add-zero, zero-add}
 use native.Mathlib.Omega.{arith}
 use mathlib.Core.Path.{_≡_, refl, ap, sym, _∙_}
-use mathlib.Core.Bool.{true, false≢true}
+use mathlib.Core.Bool.{true, false≢true, and-eq-true-iff}
 use mathlib.Core.List.{List, [], _∷_}
 use borrow.Author.Tests.{ltb-true, eqb-true, le-leb, lt-leb}
 use lib.Dec.{ltb, leb, eqb}
@@ -11,18 +11,17 @@ use lib.ListN.{length, take, getD}
 use lib.Seq.{length-take-le, getD-take}
 use Rattle.definition.specs.Text.{if_then_else_}
 use Rattle.definition.specs.LineMap.{LineCol, last-line, get-line-and-col, rises, line-table}
-use Rattle.theorems.proofs.Worked.{and-true}
 use Rattle.error.specs.Lines.{Starts, Found}
 
 -- Two starts that rise, and those behind them.
 module _ (s t : ℕ) (ts : List ℕ) (r : rises s (t ∷ ts) ≡ true) where
   rise : s < t
   unfolding rises
-  rise = ltb-true s t (and-true (ltb s t) (rises t ts) r .0)
+  rise = ltb-true s t (and-eq-true-iff (ltb s t) (rises t ts) .0 r .0)
 
   rises-on : rises t ts ≡ true
   unfolding rises
-  rises-on = and-true (ltb s t) (rises t ts) r .1
+  rises-on = and-eq-true-iff (ltb s t) (rises t ts) .0 r .1
 
 -- Where the first start is behind the offset, all are.
 all-behind : (i : ℕ) (f : LineCol) (s : ℕ) (ss : List ℕ) (offset : ℕ) → rises s ss ≡ true → offset < s → last-line i f (s ∷ ss) offset ≡ f
@@ -57,18 +56,18 @@ line-is : (xs : List ℕ) (k offset : ℕ) → line-table xs ≡ true → k < le
     → get-line-and-col xs offset ≡ record { line = k; column = offset - getD xs k 0 }
 unfolding line-table get-line-and-col
 line-is [] k offset r h l g = absurd (omega arith)
-line-is (s ∷ ss) k offset r h l g = last-at k 0 _ s ss offset (and-true (eqb s 0) (rises s ss) r .1) h l g ∙ rw (zero-add k)
+line-is (s ∷ ss) k offset r h l g = last-at k 0 _ s ss offset (and-eq-true-iff (eqb s 0) (rises s ss) .0 r .1) h l g ∙ rw (zero-add k)
 
 least : (xs : List ℕ) (k : ℕ) → line-table xs ≡ true → k < length xs → k ≤ getD xs k 0
 unfolding line-table
 least [] k r h = absurd (omega arith)
-least (s ∷ ss) k r h = omega (arith, at-least k s ss (and-true (eqb s 0) (rises s ss) r .1) h)
+least (s ∷ ss) k r h = omega (arith, at-least k s ss (and-eq-true-iff (eqb s 0) (rises s ss) .0 r .1) h)
 
 -- A line table has a first start, and that is 0.
 first-start : (xs : List ℕ) → line-table xs ≡ true → (0 < length xs) × (getD xs 0 0 ≡ 0)
 unfolding line-table
 first-start [] r = absurd (false≢true r)
-first-start (s ∷ ss) r = (omega arith, eqb-true s 0 (and-true (eqb s 0) (rises s ss) r .0))
+first-start (s ∷ ss) r = (omega arith, eqb-true s 0 (and-eq-true-iff (eqb s 0) (rises s ss) .0 r .0))
 
 -- The line is one from low up to high.
 pub record Searching (lines : List ℕ) (count offset low high : ℕ) : Type 0 where

@@ -1,0 +1,2 @@
+// The directives (`syntax.rs`).
+pub mod word;

@@ -1,0 +1,79 @@
+// Which directive a word is.
+ghost use mathlib.Core.Path.{_≡_};
+ghost use Rattle.syntax.specs.Word.{spelt-as, Finds};
+
+// The places of the fourteen words in the table of directives, and what stands for an unknown word.
+pub struct Word {
+    pub place: usize,
+}
+
+impl Word {
+    pub const INCLUDE: usize = 0;
+
+    pub const DEFINE: usize = 1;
+
+    pub const UNDEF: usize = 2;
+
+    pub const LINE: usize = 3;
+
+    pub const ERROR: usize = 4;
+
+    pub const PRAGMA: usize = 5;
+
+    pub const VERSION: usize = 6;
+
+    pub const IF: usize = 7;
+
+    pub const IFDEF: usize = 8;
+
+    pub const IFNDEF: usize = 9;
+
+    pub const ELIF: usize = 10;
+
+    pub const ELSE: usize = 11;
+
+    pub const ENDIF: usize = 12;
+
+    pub const EXTENSION: usize = 13;
+
+    pub const UNKNOWN: usize = 14;
+}
+
+// Whether the text, unescaped, is the word at a place.
+fn spelt(w: usize, text: &[u8]) -> bool
+    ensures { λ r. ⌜ r ≡ spelt-as w (now (text .entry)) ⌝ }
+{
+    match w {
+        Word::INCLUDE => pre::name::spells(text, b"include"),
+        Word::DEFINE => pre::name::spells(text, b"define"),
+        Word::UNDEF => pre::name::spells(text, b"undef"),
+        Word::LINE => pre::name::spells(text, b"line"),
+        Word::ERROR => pre::name::spells(text, b"error"),
+        Word::PRAGMA => pre::name::spells(text, b"pragma"),
+        Word::VERSION => pre::name::spells(text, b"version"),
+        Word::IF => pre::name::spells(text, b"if"),
+        Word::IFDEF => pre::name::spells(text, b"ifdef"),
+        Word::IFNDEF => pre::name::spells(text, b"ifndef"),
+        Word::ELIF => pre::name::spells(text, b"elif"),
+        Word::ELSE => pre::name::spells(text, b"else"),
+        Word::ENDIF => pre::name::spells(text, b"endif"),
+        Word::EXTENSION => pre::name::spells(text, b"extension"),
+        _ => false,
+    }
+}
+
+// The place of the word that the text is, unescaped.
+pub fn find_word(text: &[u8]) -> usize
+    ensures { λ r. ⌜ Finds (now (text .entry)) r ⌝ }
+{
+    let mut w: usize = 0;
+    'search: loop {
+        if Word::UNKNOWN <= w {
+            break 'search Word::UNKNOWN;
+        }
+        if spelt(w, text) {
+            break 'search w;
+        }
+        w += 1;
+    }
+}
