@@ -1,10 +1,10 @@
 // The error log: errors as they are met, written into a lent table of ten numbers each (error.rs).
 pub mod lines;
 
+use text::table;
 use tree::entry::FAR;
 ghost use mathlib.Core.Path.{_≡_};
-ghost use Prim.Native.Nat.{_-_, _/_};
-ghost use lib.ListN.{length};
+ghost use Prim.Native.Nat.{_/_};
 ghost use Rattle.definition.specs.Tree.{Width};
 ghost use Rattle.error.specs.Log.{log, add};
 
@@ -44,21 +44,11 @@ pub struct Fault {
     pub past: u32,
 }
 
-// How many numbers the table has from n on.
-fn rest(table: &[u32], n: usize) -> usize
-    ensures { λ r. ⌜ r ≡ length (now (table .entry)) - n ⌝ }
-{
-    if table.len() < n {
-        return 0;
-    }
-    table.len() - n
-}
-
 // Writes an error at n, if it has room, and gives the place of the next. Its line and column are filled in later.
 pub fn push_error(table: &mut [u32], n: usize, e: Fault) -> usize
     ensures { λ r. ⌜ log (now (table .exit)) r ≡ add e (log (now (table .entry)) n) ⌝ }
 {
-    if WIDTH <= rest(table, n) {
+    if WIDTH <= table::rest(table, n) {
         table[n] = e.sort;
         table[n + START] = e.start;
         table[n + END] = e.end;

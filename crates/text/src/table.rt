@@ -1,5 +1,6 @@
 // Lent tables: cleared, and written as far as they go.
 ghost use mathlib.Core.Path.{_≡_};
+ghost use Prim.Native.Nat.{_-_};
 ghost use lib.ListN.{length, replicate, set};
 
 // Fills a table with 0.
@@ -40,4 +41,14 @@ pub fn put_byte(output: &mut [u8], n: usize, b: u8)
     if n < output.len() {
         output[n] = b;
     }
+}
+
+// How many numbers a table has from place n on.
+pub fn rest(t: &[u32], n: usize) -> usize
+    ensures { λ r. ⌜ r ≡ length (now (t .entry)) - n ⌝ }
+{
+    if t.len() < n {
+        return 0;
+    }
+    t.len() - n
 }

@@ -1,7 +1,6 @@
 // The entries of a table: written as far as it goes.
+use text::table;
 ghost use mathlib.Core.Path.{_≡_};
-ghost use Prim.Native.Nat.{_-_};
-ghost use lib.ListN.{length};
 ghost use Rattle.tree.specs.Machine.{Puts, patched};
 
 // The forms of an entry.
@@ -26,16 +25,6 @@ const END: usize = 4;
 // The place of the next entry once one did not fit.
 pub const FAR: usize = 18_446_744_073_709_551_615;
 
-// How many numbers the table has from n on.
-fn rest(table: &[u32], n: usize) -> usize
-    ensures { λ r. ⌜ r ≡ length (now (table .entry)) - n ⌝ }
-{
-    if table.len() < n {
-        return 0;
-    }
-    table.len() - n
-}
-
 // Writes an entry at n, if it has room, and gives the place of the next.
 pub fn put(
     table: &mut [u32],
@@ -48,7 +37,7 @@ pub fn put(
 ) -> usize
     ensures { λ r. ⌜ Puts (record { form = form; kind = kind; level = level; start = start; end = end }) (now (table .entry)) n (now (table .exit)) r ⌝ }
 {
-    if WIDTH <= rest(table, n) {
+    if WIDTH <= table::rest(table, n) {
         table[n] = form;
         table[n + KIND] = kind;
         table[n + LEVEL] = level;
@@ -63,7 +52,7 @@ pub fn put(
 pub fn patch(table: &mut [u32], n: usize, kind: u32, pos: u32)
     ensures { λ _. ⌜ now (table .exit) ≡ patched (now (table .entry)) n kind pos ⌝ }
 {
-    if WIDTH <= rest(table, n) {
+    if WIDTH <= table::rest(table, n) {
         table[n + KIND] = kind;
         table[n + END] = pos;
     }
