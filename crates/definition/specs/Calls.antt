@@ -39,6 +39,9 @@ too-long src = record { number = Refusal.LENGTH; fails = ltb longest-source (len
 abbrev pub not-utf8 : List ℕ → Check  -- 2: it is not UTF-8.
 not-utf8 src = record { number = Refusal.UTF8; fails = not (utf8 src) }
 
+abbrev pub source-checks : List ℕ → List Check  -- What every call on a source or text checks first.
+source-checks src = too-long src ∷ not-utf8 src ∷ []
+
 abbrev pub too-many-concats : List ℕ → Check  -- 3: some body holds more ##.
 too-many-concats counts = record { number = Refusal.CONCATS; fails = too-many counts }
 
@@ -91,8 +94,8 @@ pub record Reading : Type 0 where
 
 abbrev pub reading-checks : List ℕ → Full → ℕ → ℕ → ℕ → List Check  -- Reading checks 1 to 6.
 reading-checks src f entry-room error-room line-room =
-    too-long src ∷ not-utf8 src ∷ too-many-concats (f .concats) ∷
-    short-table Refusal.ENTRIES (entries-of f) entry-room ∷ short-table Refusal.ERRORS (errors-of f) error-room ∷ short-table Refusal.LINES (f .lines) line-room ∷ []
+    source-checks src ++ (too-many-concats (f .concats) ∷
+    short-table Refusal.ENTRIES (entries-of f) entry-room ∷ short-table Refusal.ERRORS (errors-of f) error-room ∷ short-table Refusal.LINES (f .lines) line-room ∷ [])
 
 unfoldable pub outcome : ℕ → Full → ℕ → ℕ → ℕ → Reading  -- The full reading, or zeros, under a refusal number.
 outcome r f entry-room error-room line-room = record {
@@ -124,23 +127,23 @@ reading-body src room =
     let tree = parse-define-body src in
     let es = entries 0 0 tree in
     let ns = entry-numbers es in
-    fills (refusal (too-long src ∷ not-utf8 src ∷ too-many-concats (body-concats tree) ∷ short-table Refusal.ENTRIES ns room ∷ [])) (length es) ns room
+    fills (refusal (source-checks src ++ (too-many-concats (body-concats tree) ∷ short-table Refusal.ENTRIES ns room ∷ []))) (length es) ns room
 
 unfoldable pub listing-tokens : List ℕ → ℕ → Filled  -- `Lexer` checks 1, 2, 4.
 listing-tokens src room =
     let ts = tokens false src in
     let ns = token-numbers 0 ts in
-    fills (refusal (too-long src ∷ not-utf8 src ∷ short-table Refusal.ENTRIES ns room ∷ [])) (length ts) ns room
+    fills (refusal (source-checks src ++ (short-table Refusal.ENTRIES ns room ∷ []))) (length ts) ns room
 
 unfoldable pub building-lines : List ℕ → ℕ → Filled  -- The line table checks 1, 2, 6.
 building-lines src room =
     let ns = line-starts src in
-    fills (refusal (too-long src ∷ not-utf8 src ∷ short-table Refusal.LINES ns room ∷ [])) (length ns) ns room
+    fills (refusal (source-checks src ++ (short-table Refusal.LINES ns room ∷ []))) (length ns) ns room
 
 unfoldable pub unescaping : List ℕ → ℕ → Filled  -- `Unescaped::chars` checks 1, 2, 8.
 unescaping src room =
     let ns = unescaped src in
-    fills (refusal (too-long src ∷ not-utf8 src ∷ short-table Refusal.OUTPUT ns room ∷ [])) (length ns) ns room
+    fills (refusal (source-checks src ++ (short-table Refusal.OUTPUT ns room ∷ []))) (length ns) ns room
 
 -- Looking up an offset, and pasting two kinds.
 pub record Looked : Type 0 where

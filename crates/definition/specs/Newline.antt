@@ -1,5 +1,5 @@
 -- Characters and newlines (GLSL 3.1; 01, "Gluing and lexing").
-use Rattle.definition.specs.Text.{ℕ, Bool, _&&_, _||_, List, Option, none, some, eqb, if_then_else_, among, byte}
+use Rattle.definition.specs.Text.{ℕ, Bool, _&&_, _||_, List, [], _∷_, Option, none, some, eqb, if_then_else_, among, one-of, byte}
 use Rattle.definition.specs.Runs.{Run, grouped}
 
 abbrev pub LF : ℕ
@@ -29,12 +29,18 @@ letter c = among (byte "A") (byte "Z") c || among (byte "a") (byte "z") c
 abbrev pub digit : ℕ → Bool
 digit c = among (byte "0") (byte "9") c
 
-abbrev pub newline : ℕ → Bool
-newline c = eqb c LF || eqb c CR || eqb c CRLF
+abbrev pub newlines : List ℕ
+newlines = LF ∷ CR ∷ CRLF ∷ []
 
--- A vertical tab (11) is no blank.
+abbrev pub newline : ℕ → Bool
+newline c = one-of newlines c
+
+-- Tab, form feed and space; a vertical tab (11) is no blank.
+abbrev pub blanks : List ℕ
+blanks = byte "\t" ∷ 12 ∷ byte " " ∷ []
+
 abbrev pub blank : ℕ → Bool
-blank c = eqb c (byte "\t") || eqb c 12 || eqb c (byte " ")
+blank c = one-of blanks c
 
 pub data Class : Type 0 where
   LETTER DIGIT NEWLINE WS PUNCT : Class

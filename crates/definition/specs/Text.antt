@@ -19,6 +19,11 @@ if false then a else b = b
 abbrev pub among : ℕ → ℕ → ℕ → Bool
 among low high n = leb low n && leb n high
 
+-- Whether a number stands in a row.
+abbrev pub one-of : List ℕ → ℕ → Bool
+one-of [] n = false
+one-of (x ∷ xs) n = eqb n x || one-of xs n
+
 -- The byte of an ASCII character.
 abbrev pub byte : Char → ℕ
 byte c = code c

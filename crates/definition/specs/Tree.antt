@@ -66,14 +66,19 @@ pub record Entry : Type 0 where
 abbrev pub Form : record { leaf : ℕ; node : ℕ }  -- The first number of an entry.
 Form = record { leaf = 0; node = 1 }
 
+abbrev pub leaf-entry : ℕ → ℕ → ℕ → ℕ → Entry  -- Kind, level, start, end.
+leaf-entry kind level start end = record { form = Form.leaf; kind = kind; level = level; start = start; end = end }
+
+abbrev pub node-entry : ℕ → ℕ → ℕ → ℕ → Entry
+node-entry kind level start end = record { form = Form.node; kind = kind; level = level; start = start; end = end }
+
 -- The entries of a row of trees at a level and an offset, parent before children, left to right.
 unfoldable pub entries : ℕ → ℕ → Forest → List Entry
 entries l at nil = []
 entries l at (leaf t f) =
-    record { form = Form.leaf; kind = t .kind; level = l; start = at; end = at + long t } ∷ entries l (at + long t) f
+    leaf-entry (t .kind) l at (at + long t) ∷ entries l (at + long t) f
 entries l at (node k c f) =
-    record { form = Form.node; kind = k; level = l; start = at; end = at + size c }
-    ∷ (entries (l + 1) at c ++ entries l (at + size c) f)
+    node-entry k l at (at + size c) ∷ (entries (l + 1) at c ++ entries l (at + size c) f)
 
 -- How many numbers an entry has, an error, and a token.
 abbrev pub Width : record { entry : ℕ; error : ℕ; token : ℕ }

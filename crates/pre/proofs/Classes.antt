@@ -6,9 +6,9 @@ use mathlib.Core.Option.{none}
 use native.Mathlib.Omega.{arith}
 use lib.Dec.{eqb, leb, ltb}
 use borrow.Author.Tests.{ne-eqb, eqb-true, eqb-false, lt-leb, leb-true, ltb-true, not-true}
-use Rattle.definition.specs.Text.{among, byte}
+use Rattle.definition.specs.Text.{List, [], _∷_, among, one-of, byte}
 use Rattle.definition.specs.SyntaxKind.{Kind}
-use Rattle.definition.specs.Newline.{LF, CR, CRLF, char-more, letter, digit, newline, blank, class}
+use Rattle.definition.specs.Newline.{LF, CR, CRLF, char-more, letter, digit, newlines, newline, blanks, blank, class}
 use Rattle.definition.specs.Pre.{puncts}
 use Rattle.theorems.proofs.Lexing.Sorts.{find-low}
 use Rattle.pre.specs.Table.{Entry, punct, entry, entry-of}
@@ -65,26 +65,18 @@ pub letter-no-digit : (b : ℕ) → letter b ≡ true → digit b ≡ false
 letter-no-digit b e = is-false (digit b) (λ p.
     let w : Within (byte "A") (byte "z") b = letter-within b e in let v : Within (byte "0") (byte "9") b = digit-within b p in omega arith)
 
--- One of three numbers.
-pub data One-of (b x y z : ℕ) : Type 0 where
-  is-1 : b ≡ x → One-of b x y z
-  is-2 : b ≡ y → One-of b x y z
-  is-3 : b ≡ z → One-of b x y z
+-- What holds of every number of a row holds of a number that stands in it.
+abbrev pub every : (ℕ → Bool) → List ℕ → Bool
+every p [] = true
+every p (x ∷ xs) = p x && every p xs
 
-one-of : (b x y z : ℕ) → (eqb b x || eqb b y || eqb b z) ≡ true → One-of b x y z
-one-of b x y z h = go (eqb b x) (eqb b y) (eqb b z) refl refl refl h
+pub of-row : (p : ℕ → Bool) (xs : List ℕ) (b : ℕ) → one-of xs b ≡ true → every p xs ≡ true → p b ≡ true
+of-row p [] b e h = absurd (false≢true e)
+of-row p (x ∷ xs) b e h = let a = and-eq-true-iff (p x) (every p xs) .0 h in go (eqb b x) refl (a .0) (λ z. of-row p xs b z (a .1))
   where
-    go : (t u v : Bool) → eqb b x ≡ t → eqb b y ≡ u → eqb b z ≡ v → (t || u || v) ≡ true → One-of b x y z
-    go true u v e f g h = is-1 (eqb-true b x e)
-    go false true v e f g h = is-2 (eqb-true b y f)
-    go false false true e f g h = is-3 (eqb-true b z g)
-    go false false false e f g h = absurd (false≢true h)
-
-pub newline-of : (b : ℕ) → newline b ≡ true → One-of b LF CR CRLF
-newline-of b e = one-of b LF CR CRLF e
-
-pub blank-of : (b : ℕ) → blank b ≡ true → One-of b (byte "\t") 12 (byte " ")
-blank-of b e = one-of b (byte "\t") 12 (byte " ") e
+    go : (t : Bool) → eqb b x ≡ t → p x ≡ true → (one-of xs b ≡ true → p b ≡ true) → p b ≡ true
+    go true q a ih = rw (eqb-true b x q) a
+    go false q a ih = ih (rw q at e)
 
 -- The entries of punctuation lie above the others.
 pub punct-low : (b : ℕ) → Kind.PERIOD ≤ punct b
@@ -171,21 +163,11 @@ says b k e = go (letter b) (digit b) (newline b) (blank b) refl refl refl refl (
 module _ (b k : ℕ) (e : k ≡ entry b) where
   pub no-newline : (k ≡ Entry.NEWLINE → ⊥) → newline b ≡ false
   unfolding entry entry-of class
-  no-newline h = is-false (newline b) (λ p. h (e ∙ go (newline-of b p)))
-    where
-      go : One-of b LF CR CRLF → entry b ≡ Entry.NEWLINE
-      go (is-1 z) = rw z
-      go (is-2 z) = rw z
-      go (is-3 z) = rw z
+  no-newline h = is-false (newline b) (λ p. h (e ∙ eqb-true (entry b) Entry.NEWLINE (of-row (λ x. eqb (entry x) Entry.NEWLINE) newlines b p refl)))
 
   pub no-blank : (k ≡ Entry.WS → ⊥) → blank b ≡ false
   unfolding entry entry-of class
-  no-blank h = is-false (blank b) (λ p. h (e ∙ go (blank-of b p)))
-    where
-      go : One-of b (byte "\t") 12 (byte " ") → entry b ≡ Entry.WS
-      go (is-1 z) = rw z
-      go (is-2 z) = rw z
-      go (is-3 z) = rw z
+  no-blank h = is-false (blank b) (λ p. h (e ∙ eqb-true (entry b) Entry.WS (of-row (λ x. eqb (entry x) Entry.WS) blanks b p refl)))
 
   -- Letters, digits, blanks and ASCII punctuation are characters of one byte.
   pub closed-word : k < Entry.NEWLINE → Closed b
@@ -197,12 +179,7 @@ module _ (b k : ℕ) (e : k ≡ entry b) where
       go false false p q r = absurd (false≢true r)
 
   pub closed-blank : k ≡ Entry.WS → Closed b
-  closed-blank h = go (blank-of b (says b k e .blank-is h))
-    where
-      go : One-of b (byte "\t") 12 (byte " ") → Closed b
-      go (is-1 z) = closed-is b _ z refl
-      go (is-2 z) = closed-is b _ z refl
-      go (is-3 z) = closed-is b _ z refl
+  closed-blank h = closed-is b b refl (of-row closed blanks b (says b k e .blank-is h) refl)
 
   pub closed-punct : Kind.PERIOD ≤ k → b < 192 → Closed b
   unfolding entry entry-of class

@@ -5,14 +5,14 @@ use mathlib.Core.Bool.{Bool, true, false, _&&_, _||_, not, false≢true, true≢
 use mathlib.Core.Option.{none, some}
 use native.Mathlib.Omega.{arith}
 use lib.Dec.{eqb}
-use borrow.Author.Tests.{ne-eqb, eqb-true}
-use Rattle.definition.specs.Text.{byte}
+use borrow.Author.Tests.{ne-eqb, eqb-true, not-true}
+use Rattle.definition.specs.Text.{List, one-of, byte}
 use Rattle.definition.specs.SyntaxKind.{Kind}
-use Rattle.definition.specs.Newline.{LF, CR, CRLF, letter, digit, newline, blank}
+use Rattle.definition.specs.Newline.{LF, CR, CRLF, letter, digit, newlines, newline, blanks, blank}
 use Rattle.definition.specs.Pre.{done, slash, ident, single-comment, whitespace, backslash, digits, alone, in-digits, begin, flag, more}
 use Rattle.pre.specs.Table.{Entry, punct, entry}
 use Rattle.pre.specs.Scan.{takes-point}
-use Rattle.pre.proofs.Classes.{Closed, closed-is, Within, letter-within, digit-within, letter-no-digit, One-of, is-1, is-2, is-3, newline-of, blank-of, Says, says, no-newline, no-blank}
+use Rattle.pre.proofs.Classes.{Closed, closed-is, Within, letter-within, digit-within, letter-no-digit, every, of-row, Says, says, no-newline, no-blank}
 
 or-false-left : (x y : Bool) → (x || y) ≡ false → x ≡ false
 or-false-left true y e = absurd (true≢false e)
@@ -160,23 +160,20 @@ module _ (b k : ℕ) (f : Bool) (c : k ≡ entry b) where
       let w : Within (byte "0") (byte "9") b = digit-within b (says b k c .digit-is z) in
       rw (says b k c .no-letter (λ y. omega arith), ne-eqb b (byte "_") (λ y. omega arith), says b k c .digit-is z)
 
+  no-under : (xs : List ℕ) → one-of xs b ≡ true → every (λ x. not (eqb x (byte "_"))) xs ≡ true → eqb b (byte "_") ≡ false
+  no-under xs p h = not-true _ (of-row (λ x. not (eqb x (byte "_"))) xs b p h)
+
   pub begin-newline : k ≡ Entry.NEWLINE → begin f b ≡ done Kind.NEWLINE
   unfolding begin
-  begin-newline z = go (newline-of b (says b k c .newline-is z))
-    where
-      go : One-of b LF CR CRLF → begin f b ≡ done Kind.NEWLINE
-      go (is-1 p) = rw p
-      go (is-2 p) = rw p
-      go (is-3 p) = rw p
+  begin-newline z =
+      let s : Says b k = says b k c in
+      rw (s .no-letter (λ y. omega arith), no-under newlines (s .newline-is z) refl, s .no-digit (omega arith), s .newline-is z)
 
   pub begin-blank : k ≡ Entry.WS → begin f b ≡ whitespace
   unfolding begin
-  begin-blank z = go (blank-of b (says b k c .blank-is z))
-    where
-      go : One-of b (byte "\t") 12 (byte " ") → begin f b ≡ whitespace
-      go (is-1 p) = rw p
-      go (is-2 p) = rw p
-      go (is-3 p) = rw p
+  begin-blank z =
+      let s : Says b k = says b k c in
+      rw (s .no-letter (λ y. omega arith), no-under blanks (s .blank-is z) refl, s .no-digit (omega arith), no-newline b k c (λ y. omega arith), s .blank-is z)
 
   -- Punctuation that begins no longer token.
   pub begin-punct : Kind.PERIOD ≤ k → Plain b → begin f b ≡ done (punct b)

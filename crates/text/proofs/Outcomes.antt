@@ -10,7 +10,7 @@ use lib.Dec.{eqb}
 use lib.ListN.{length, length-replicate}
 use lib.Seq.{sets, length-sets}
 use borrow.Author.Tests.{lt-ltb, le-ltb, ne-eqb}
-use Rattle.definition.specs.Calls.{refusal, short-table, filled, counted, Filled, fills}
+use Rattle.definition.specs.Calls.{refusal, source-checks, short-table, filled, counted, Filled, fills}
 use Rattle.text.specs.Fills.{Fills, Written}
 use Rattle.text.proofs.Tables.{zeros, written-padded}
 use Rattle.text.proofs.Refusals.{source-then, source-refused, source-passed, source-length}
@@ -29,7 +29,7 @@ module _ (src : List ℕ) (number n : ℕ) (numbers : List ℕ) (room : ℕ) (t 
   unfolding filled
   refused-by r e z q = fills-by r r 0 e refl (rw z) (rw z q)
 
-  module _ (r : ℕ) (e : r ≡ refusal (source-then src [])) where
+  module _ (r : ℕ) (e : r ≡ refusal (source-checks src)) where
     -- The source is refused,
     pub call-refused : (r ≡ 0 → ⊥) → t ≡ zeros room → Fills (call src number n numbers room) (record { refusal = r; count = 0 }) t
     call-refused z q = refused-by r (source-refused src r e _ z) (ne-eqb r 0 z) q
@@ -57,7 +57,7 @@ module _ (src : List ℕ) (number n : ℕ) (numbers : List ℕ) (room : ℕ) (t 
 
 -- The same where what is counted is the numbers, and n of them were written into the cleared table t₀ as far as it goes.
 module _ (src : List ℕ) (number : ℕ) (numbers : List ℕ) (room r n : ℕ) (t₀ t₁ : List ℕ)
-    (e : r ≡ refusal (source-then src [])) (z : r ≡ 0) (b : t₀ ≡ zeros room) (k : Written numbers t₀ n t₁) where
+    (e : r ≡ refusal (source-checks src)) (z : r ≡ 0) (b : t₀ ≡ zeros room) (k : Written numbers t₀ n t₁) where
   written-long : length t₁ ≡ room
   written-long = ap length (k .table-is) ∙ length-sets t₀ 0 numbers ∙ ap length b ∙ length-replicate room 0
 

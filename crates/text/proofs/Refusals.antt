@@ -8,7 +8,7 @@ use lib.ListN.{length}
 use borrow.Author.Tests.{lt-ltb, le-ltb, eq-eqb, ne-eqb, ltb-false, eqb-false, not-true}
 use Rattle.definition.specs.Text.{if_then_else_}
 use Rattle.definition.specs.Utf8.{left, utf8, nothing, cut, broken}
-use Rattle.definition.specs.Calls.{Check, refusal, longest-source, too-long, not-utf8}
+use Rattle.definition.specs.Calls.{Check, refusal, longest-source, too-long, not-utf8, source-checks}
 use Rattle.theorems.proofs.Refusals.{numbered}
 use Rattle.text.specs.Utf8.{told}
 use Rattle.text.specs.declared.utf8.Left.{Left}
@@ -40,32 +40,32 @@ refusal-passed c cs h e = go (c .fails) (and-eq-true-iff (not (eqb (c .number) 0
 
 -- What every source is refused for, with other refusals after it.
 abbrev pub source-then : List ℕ → List Check → List Check
-source-then src cs = too-long src ∷ not-utf8 src ∷ cs
+source-then src cs = source-checks src ++ cs
 
 module _ (src : List ℕ) where
-  pub long-source : longest-source < length src → too-long src .number ≡ refusal (source-then src [])
+  pub long-source : longest-source < length src → too-long src .number ≡ refusal (source-checks src)
   unfolding refusal
   long-source h = rw (lt-ltb longest-source (length src) h)
 
   -- The answer of the UTF-8 check decides whether a source is refused that is not too long.
   module _ (l : Left) (h : length src ≤ longest-source) (e : told l ≡ left [] src) where
-    pub whole-source : l ≡ Nothing → 0 ≡ refusal (source-then src [])
+    pub whole-source : l ≡ Nothing → 0 ≡ refusal (source-checks src)
     unfolding refusal utf8
     whole-source q = let d : left [] src ≡ nothing = sym e ∙ ap told q in rw (le-ltb longest-source (length src) h, d, utf8)
 
-    pub cut-source : l ≡ Cut → not-utf8 src .number ≡ refusal (source-then src [])
+    pub cut-source : l ≡ Cut → not-utf8 src .number ≡ refusal (source-checks src)
     unfolding refusal utf8
     cut-source q = let d : left [] src ≡ cut = sym e ∙ ap told q in rw (le-ltb longest-source (length src) h, d, utf8)
 
-    pub broken-source : l ≡ Broken → not-utf8 src .number ≡ refusal (source-then src [])
+    pub broken-source : l ≡ Broken → not-utf8 src .number ≡ refusal (source-checks src)
     unfolding refusal utf8
     broken-source q = let d : left [] src ≡ broken = sym e ∙ ap told q in rw (le-ltb longest-source (length src) h, d, utf8)
 
 -- What a source is refused for comes first, and if it is not refused, the other refusals of the call decide.
-module _ (src : List ℕ) (r : ℕ) (e : r ≡ refusal (source-then src [])) where
+module _ (src : List ℕ) (r : ℕ) (e : r ≡ refusal (source-checks src)) where
   split : (cs : List Check) → refusal (source-then src cs) ≡ (if eqb r 0 then refusal cs else r)
   unfolding numbered
-  split cs = rw e (refusal-split (source-then src []) cs refl)
+  split cs = rw e (refusal-split (source-checks src) cs refl)
 
   pub source-refused : (cs : List Check) → (r ≡ 0 → ⊥) → refusal (source-then src cs) ≡ r
   source-refused cs z = split cs ∙ rw (ne-eqb r 0 z)

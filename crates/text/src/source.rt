@@ -2,14 +2,13 @@
 use crate::refusal;
 use crate::utf8::Left;
 ghost use mathlib.Core.Path.{_≡_};
-ghost use mathlib.Core.List.{[], _∷_};
-ghost use Rattle.definition.specs.Calls.{refusal, too-long, not-utf8};
+ghost use Rattle.definition.specs.Calls.{refusal, source-checks};
 
 const LONGEST: usize = 16_777_216;
 
 // The number of the first refusal of a source; 0: none.
 pub fn refused(src: &[u8]) -> u32
-    ensures { λ r. ⌜ r ≡ refusal (too-long (now (src .entry)) ∷ not-utf8 (now (src .entry)) ∷ []) ⌝ }
+    ensures { λ r. ⌜ r ≡ refusal (source-checks (now (src .entry))) ⌝ }
 {
     if LONGEST < src.len() {
         return refusal::TOO_LONG;

@@ -2,7 +2,7 @@
 use Prim.Native.Nat.{ℕ, _*_, _≤_}
 use mathlib.Core.Path.{_≡_, refl, ap, sym, _∙_, subst}
 use mathlib.Core.Bool.{Bool, true, false, not}
-use mathlib.Core.List.{List, [], _∷_}
+use mathlib.Core.List.{List, [], _∷_, _++_}
 use borrow.Author.Tests.{le-ltb}
 use lib.ListN.{length}
 use Rattle.definition.specs.Utf8.{utf8}
@@ -11,14 +11,18 @@ use Rattle.definition.specs.Unescaped.{unescaped}
 use Rattle.definition.specs.Glue.{tokens}
 use Rattle.definition.specs.Tree.{Width, entries, body-concats}
 use Rattle.definition.specs.Syntax.{parse-define-body}
-use Rattle.definition.specs.Calls.{longest-source, Full, full-reading, too-many, reading, reading-body, listing-tokens, building-lines, unescaping, looking-up, pasting, no-kind}
-use Rattle.theorems.specs.Refusals.{Pass, Some-over, Line-table}
-use Rattle.theorems.proofs.Refusals.{reading-refuses, body-refuses, tokens-refuses, lines-refuses, unescape-refuses, lookup-refuses, paste-refuses, length-entries, length-errors, length-tokens, too-many-when, line-table-when}
+use Rattle.definition.specs.Calls.{Check, longest-source, source-checks, Full, full-reading, too-many, reading, reading-body, listing-tokens, building-lines, unescaping, looking-up, pasting, no-kind}
+use Rattle.theorems.specs.Refusals.{Pass, Refuses, Some-over, Line-table}
+use Rattle.theorems.proofs.Refusals.{reading-refuses, body-refuses, tokens-refuses, lines-refuses, unescape-refuses, lookup-refuses, paste-refuses, length-entries, length-errors, length-tokens, too-many-when, line-table-when, source-passes, pass-then}
 
 -- A condition that does not hold.
 unmet : (b : Bool) → (b ≡ true → ⊥) → b ≡ false
 unmet true h = absurd (h refl)
 unmet false h = refl
+
+-- A call on a source asks that it is not too long, and UTF-8, and what else it checks.
+source-accepts : (src : List ℕ) (r : ℕ) (cs : List Check) → Refuses r (source-checks src ++ cs) → length src ≤ longest-source → utf8 src ≡ true → Pass cs → r ≡ 0
+source-accepts src r cs f n u p = f .accepted .1 (pass-then (source-checks src) cs (source-passes src n u) p)
 
 -- Reading asks: a source that is not too long, UTF-8, few ## in each body, and three tables that are long enough.
 pub reading-accepts : (src : List ℕ) (a b c : ℕ)
@@ -30,15 +34,9 @@ pub reading-accepts : (src : List ℕ) (a b c : ℕ)
     → length (full-reading src .lines) ≤ c
     → reading src a b c .refused ≡ 0
 unfolding Pass
-reading-accepts src a b c n u m e r l = reading-refuses src a b c .accepted .1 (
-  le-ltb longest-source (length src) n,
-  (
-    ap not u,
-    (
-      unmet _ (λ q. m (too-many-when _ .0 q)),
-      (le-ltb a _ (subst (λ x. x ≤ a) (sym (length-entries _)) e), (le-ltb b _ (subst (λ x. x ≤ b) (sym (length-errors _ _)) r), (le-ltb c _ l, tt))),
-    ),
-  ),
+reading-accepts src a b c n u m e r l = source-accepts src _ _ (reading-refuses src a b c) n u (
+  unmet _ (λ q. m (too-many-when _ .0 q)),
+  (le-ltb a _ (subst (λ x. x ≤ a) (sym (length-entries _)) e), (le-ltb b _ (subst (λ x. x ≤ b) (sym (length-errors _ _)) r), (le-ltb c _ l, tt))),
 )
 
 pub body-accepts : (src : List ℕ) (room : ℕ)
@@ -48,22 +46,20 @@ pub body-accepts : (src : List ℕ) (room : ℕ)
     → Width.entry * length (entries 0 0 (parse-define-body src)) ≤ room
     → reading-body src room .refused ≡ 0
 unfolding Pass
-body-accepts src room n u m e = body-refuses src room .accepted .1
-    (le-ltb longest-source (length src) n, (ap not u, (unmet _ (λ q. m (too-many-when _ .0 q)), (le-ltb room _ (subst (λ x. x ≤ room) (sym (length-entries _)) e), tt))))
+body-accepts src room n u m e = source-accepts src _ _ (body-refuses src room) n u (unmet _ (λ q. m (too-many-when _ .0 q)), (le-ltb room _ (subst (λ x. x ≤ room) (sym (length-entries _)) e), tt))
 
 module _ (src : List ℕ) (room : ℕ) (n : length src ≤ longest-source) (u : utf8 src ≡ true) where
   pub tokens-accepts : Width.token * length (tokens false src) ≤ room → listing-tokens src room .refused ≡ 0
   unfolding Pass
-  tokens-accepts h = tokens-refuses src room .accepted .1
-      (le-ltb longest-source (length src) n, (ap not u, (le-ltb room _ (subst (λ x. x ≤ room) (sym (length-tokens 0 (tokens false src))) h), tt)))
+  tokens-accepts h = source-accepts src _ _ (tokens-refuses src room) n u (le-ltb room _ (subst (λ x. x ≤ room) (sym (length-tokens 0 (tokens false src))) h), tt)
 
   pub lines-accepts : length (line-starts src) ≤ room → building-lines src room .refused ≡ 0
   unfolding Pass
-  lines-accepts h = lines-refuses src room .accepted .1 (le-ltb longest-source (length src) n, (ap not u, (le-ltb room _ h, tt)))
+  lines-accepts h = source-accepts src _ _ (lines-refuses src room) n u (le-ltb room _ h, tt)
 
   pub unescape-accepts : length (unescaped src) ≤ room → unescaping src room .refused ≡ 0
   unfolding Pass
-  unescape-accepts h = unescape-refuses src room .accepted .1 (le-ltb longest-source (length src) n, (ap not u, (le-ltb room _ h, tt)))
+  unescape-accepts h = source-accepts src _ _ (unescape-refuses src room) n u (le-ltb room _ h, tt)
 
 pub lookup-accepts : (lines : List ℕ) (offset : ℕ) → Line-table lines → looking-up lines offset .refused ≡ 0
 unfolding Pass

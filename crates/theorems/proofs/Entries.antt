@@ -8,7 +8,7 @@ use native.Mathlib.Omega.{arith}
 use lib.ListN.{length, take, drop, getD, length-append}
 use lib.Seq.{slice, take-nil, drop-drop, take-append-seam, drop-append-seam}
 use lib.Dec.{eqb}
-use Rattle.definition.specs.Tree.{Leaf, long, bytes, Forest, nil, leaf, node, _▹_, leaves, size, Entry, Form, entries, entry-numbers}
+use Rattle.definition.specs.Tree.{Leaf, long, bytes, Forest, nil, leaf, node, _▹_, leaves, size, Entry, Form, leaf-entry, node-entry, entries, entry-numbers}
 use Rattle.theorems.proofs.Tiling.Leaves.{bytes-append}
 use Rattle.theorems.specs.Placed.{Placed}
 use Rattle.theorems.specs.Demand3.{entries-in, leaf-entries, leaf-of, Follow}
@@ -20,18 +20,12 @@ size-▹ nil g = omega arith
 size-▹ (leaf t f) g = let h = size-▹ f g in omega arith
 size-▹ (node k c f) g = let h = size-▹ f g in omega arith
 
-abbrev leaf-entry : ℕ → ℕ → Leaf → Entry
-leaf-entry l a t = record { form = Form.leaf; kind = t .kind; level = l; start = a; end = a + long t }
-
-abbrev node-entry : ℕ → ℕ → ℕ → Forest → Entry
-node-entry l a k c = record { form = Form.node; kind = k; level = l; start = a; end = a + size c }
-
 pub entries-▹ : (l a : ℕ) (f g : Forest) → entries l a (f ▹ g) ≡ entries l a f ++ entries l (a + size f) g
 unfolding entries size _▹_
 entries-▹ l a nil g = rw (add-zero a) refl
-entries-▹ l a (leaf t f) g = ap (λ e. leaf-entry l a t ∷ e)
+entries-▹ l a (leaf t f) g = ap (λ e. leaf-entry (t .kind) l a (a + long t) ∷ e)
     (entries-▹ l (a + long t) f g ∙ ap (λ x. entries l (a + long t) f ++ entries l x g) (add-assoc a (long t) (size f)))
-entries-▹ l a (node k c f) g = ap (λ e. node-entry l a k c ∷ e)
+entries-▹ l a (node k c f) g = ap (λ e. node-entry k l a (a + size c) ∷ e)
     (rw (entries-▹ l (a + size c) f g, add-assoc a (size c) (size f))
     (sym (append-assoc (entries (l + 1) a c) (entries l (a + size c) f) (entries l (a + (size c + size f)) g))))
 
@@ -42,8 +36,8 @@ deeper e = record { form = e .form; kind = e .kind; level = e .level + 1; start 
 pub entries-deeper : (l a : ℕ) (f : Forest) → entries (l + 1) a f ≡ map deeper (entries l a f)
 unfolding entries deeper
 entries-deeper l a nil = refl
-entries-deeper l a (leaf t f) = ap (λ e. leaf-entry (l + 1) a t ∷ e) (entries-deeper l (a + long t) f)
-entries-deeper l a (node k c f) = ap (λ e. node-entry (l + 1) a k c ∷ e)
+entries-deeper l a (leaf t f) = ap (λ e. leaf-entry (t .kind) (l + 1) a (a + long t) ∷ e) (entries-deeper l (a + long t) f)
+entries-deeper l a (node k c f) = ap (λ e. node-entry k (l + 1) a (a + size c) ∷ e)
     (rw (entries-deeper (l + 1) a c, entries-deeper l (a + size c) f)
     (sym (map-append deeper (entries (l + 1) a c) (entries l (a + size c) f))))
 

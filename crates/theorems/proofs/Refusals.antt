@@ -18,7 +18,7 @@ use Rattle.definition.specs.Glue.{Token, tokens, token-numbers}
 use Rattle.definition.specs.Tree.{Entry, Width, entries, entry-numbers, body-concats}
 use Rattle.definition.specs.Error.{Err, error-numbers}
 use Rattle.definition.specs.Syntax.{parse-define-body}
-use Rattle.definition.specs.Calls.{Check, Refusal, longest-source, most-concats, refusal, too-many, too-long, not-utf8, too-many-concats, short-table, no-line-table, no-kind, counted, filled, full-reading, reading-checks, outcome, reading, Filled, reading-body, listing-tokens, building-lines, unescaping, looking-up, pasting}
+use Rattle.definition.specs.Calls.{Check, Refusal, longest-source, most-concats, refusal, too-many, too-long, not-utf8, source-checks, too-many-concats, short-table, no-line-table, no-kind, counted, filled, full-reading, reading-checks, outcome, reading, Filled, reading-body, listing-tokens, building-lines, unescaping, looking-up, pasting}
 use Rattle.theorems.specs.Refusals.{Pass, Given, Refuses, Zeros, Some-over, Rises, Line-table}
 
 -- A number is given exactly if its condition holds and no earlier one does.
@@ -96,7 +96,7 @@ module _ (src : List ℕ) (room : ℕ) where
   -- Reading a define body: 1 to 4.
   pub body-refuses : Refuses
       (reading-body src room .refused)
-      (too-long src ∷ not-utf8 src ∷ too-many-concats (body-concats (parse-define-body src)) ∷ short-table Refusal.ENTRIES body-entries room ∷ [])
+      (source-checks src ++ (too-many-concats (body-concats (parse-define-body src)) ∷ short-table Refusal.ENTRIES body-entries room ∷ []))
   unfolding reading-body numbered
   body-refuses = refuses _ refl
 
@@ -107,7 +107,7 @@ module _ (src : List ℕ) (room : ℕ) where
   -- Listing tokens: 1, 2, 4.
   pub tokens-refuses : Refuses
       (listing-tokens src room .refused)
-      (too-long src ∷ not-utf8 src ∷ short-table Refusal.ENTRIES (token-numbers 0 (tokens false src)) room ∷ [])
+      (source-checks src ++ (short-table Refusal.ENTRIES (token-numbers 0 (tokens false src)) room ∷ []))
   unfolding listing-tokens numbered
   tokens-refuses = refuses _ refl
 
@@ -117,7 +117,7 @@ module _ (src : List ℕ) (room : ℕ) where
 
   -- Building the line table: 1, 2, 6.
   pub lines-refuses : Refuses
-      (building-lines src room .refused) (too-long src ∷ not-utf8 src ∷ short-table Refusal.LINES (line-starts src) room ∷ [])
+      (building-lines src room .refused) (source-checks src ++ (short-table Refusal.LINES (line-starts src) room ∷ []))
   unfolding building-lines numbered
   lines-refuses = refuses _ refl
 
@@ -127,7 +127,7 @@ module _ (src : List ℕ) (room : ℕ) where
 
   -- Unescaping: 1, 2, 8.
   pub unescape-refuses : Refuses
-      (unescaping src room .refused) (too-long src ∷ not-utf8 src ∷ short-table Refusal.OUTPUT (unescaped src) room ∷ [])
+      (unescaping src room .refused) (source-checks src ++ (short-table Refusal.OUTPUT (unescaped src) room ∷ []))
   unfolding unescaping numbered
   unescape-refuses = refuses _ refl
 
@@ -179,6 +179,17 @@ too-long-when src = (ltb-true longest-source (length src), lt-ltb longest-source
 
 pub not-utf8-when : (src : List ℕ) → (not-utf8 src .fails ≡ true) ↔ (utf8 src ≡ false)
 not-utf8-when src = (not-true (utf8 src), λ e. ap not e)
+
+-- A source that is not too long, and UTF-8, passes,
+pub source-passes : (src : List ℕ) → length src ≤ longest-source → utf8 src ≡ true → Pass (source-checks src)
+unfolding Pass
+source-passes src n u = (le-ltb longest-source (length src) n, (ap not u, tt))
+
+-- and checks after others pass if both do.
+pub pass-then : (xs ys : List Check) → Pass xs → Pass ys → Pass (xs ++ ys)
+unfolding Pass
+pass-then [] ys p q = q
+pass-then (x ∷ xs) ys p q = (p .0, pass-then xs ys (p .1) q)
 
 some-over : (ns : List ℕ) → too-many ns ≡ true → Some-over ns
 unfolding too-many Some-over
