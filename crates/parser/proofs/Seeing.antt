@@ -3,7 +3,7 @@ use Prim.Native.Nat.{ℕ, _≤_}
 use mathlib.Core.Path.{_≡_, refl, sym, ap, _∙_}
 use mathlib.Core.Bool.{Bool, true, false}
 use mathlib.Core.List.{List, [], _∷_}
-use borrow.Author.Tests.{ne-eqb}
+use borrow.Author.Tests.{ne-eqb, eqb-false}
 use native.Mathlib.Omega.{arith}
 use mir.Val.{Fits}
 use mir.Syntax.{w32}
@@ -41,8 +41,13 @@ module _ (src : List ℕ) (at : ℕ) (angle : Bool) (x : Next) (y : Nexts src (r
     unfolding rest-of Held
     seen-token k e =
         let z : eqb k 0 ≡ false = ne-eqb k 0 (λ w. some-leaf (r .kind) (stepped .some-kind) (sym e ∙ w)) in
-        record { rest = rw (z, e) (sym (left-step src _ _ _ _ _ stepped)); held = λ h. stop-between src _ _ _ _ _ stepped }
+        record {
+          rest = rw (z, e) (sym (left-step src _ _ _ _ _ stepped));
+          held = λ h. (stop-between src _ _ _ _ _ stepped, stepped .forward);
+          starts = refl;
+          over = λ w. absurd (eqb-false k 0 z w);
+        }
 
   pub seen-end : x ≡ End → Sees src at angle (record { kind = 0; start = at; end = at; angle = angle })
   unfolding Nexts rest-of Held
-  seen-end q = record { rest = sym (left-over src at angle (rw q at y)); held = λ h. absurd (h refl) }
+  seen-end q = let o : length src ≤ at = rw q at y in record { rest = sym (left-over src at angle o); held = λ h. absurd (h refl); starts = refl; over = λ w. (refl, o) }

@@ -40,7 +40,7 @@ pub bump-one : (src t t′ : List ℕ) (r : Run) (p : Pen) (n : Seen) (w : ℕ) 
 unfolding bump leaves leafs Held
 bump-one src t t′ r p n w h z e q k =
     let o : rest-of src (r .seen) ≡ leaf-seen src (r .seen) ∷ left src (r .seen .end) (r .seen .angle) = one-seen src (r .seen) z in
-    record { tree = rw (o, h z) (q ∙ ap (λ x. leafed x (r .seen .start) (r .seen .end) (sheet t (r .pen))) e); rest = rw o (k .rest); held = k .held }
+    record { tree = rw (o, h z .0) (q ∙ ap (λ x. leafed x (r .seen .start) (r .seen .end) (sheet t (r .pen))) e); rest = rw o (k .rest); held = k .held }
 
 -- The trivia that is left where the loop stands is the rest of the trivia where it began.
 pub record Skipping (src t₀ : List ℕ) (r₀ : Run) (t : List ℕ) (r : Run) : Type 0 where

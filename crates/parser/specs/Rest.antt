@@ -1,5 +1,5 @@
 -- What is left to read, and what a function promises that takes leaves.
-use Prim.Native.Nat.{ℕ, _≤_}
+use Prim.Native.Nat.{ℕ, _≤_, _<_}
 use mathlib.Core.Path.{_≡_}
 use mathlib.Core.Bool.{Bool, _||_}
 use mathlib.Core.List.{List, [], _∷_}
@@ -24,14 +24,16 @@ leaf-seen src s = record { kind = s .kind; start = s .start; bytes = slice (s .s
 unfoldable pub rest-of : List ℕ → Seen → List Leaf
 rest-of src s = if eqb (s .kind) 0 then [] else leaf-seen src s ∷ left src (s .end) (s .angle)
 
--- The leaf that is seen ends where it is said to end.
+-- The leaf that is seen ends where it is said to end, and is not empty.
 unfoldable pub Held : List ℕ → Seen → Type 0
-Held src s = (s .kind ≡ 0 → ⊥) → stop (leaf-seen src s) ≡ s .end
+Held src s = (s .kind ≡ 0 → ⊥) → (stop (leaf-seen src s) ≡ s .end) × (s .start < s .end)
 
--- What is seen from a place on.
+-- What is seen from a place on: it starts there, and where nothing is left it ends there too, behind the whole source.
 pub record Sees (src : List ℕ) (at : ℕ) (angle : Bool) (s : Seen) : Type 0 where
   pub rest : rest-of src s ≡ left src at angle
   pub held : Held src s
+  pub starts : s .start ≡ at
+  pub over : s .kind ≡ 0 → (s .end ≡ at) × (length src ≤ at)
 
 abbrev pub trivial : ℕ → Bool  -- Blanks, comments and continuations, which are WS leaves.
 trivial k = eqb k Kind.WS || eqb k Kind.COMMENT
