@@ -3,6 +3,7 @@ pub mod Demand3
 pub mod Entries
 pub mod Grammar
 pub mod Heights
+pub mod Items
 pub mod Left
 pub mod Lexing
 pub mod Refusals

@@ -6,3 +6,4 @@ pub mod Demand3
 pub mod Refusals
 pub mod Left
 pub mod Height
+pub mod Items

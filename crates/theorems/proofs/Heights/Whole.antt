@@ -151,5 +151,10 @@ few-levels f h e = omega (arith, h .is, largest-few (body-concats f) e)
 pub height-parse : (src : List ℕ) → too-many (body-concats (parse src .tree)) ≡ false → height (parse src .tree) ≤ open-levels
 height-parse src = few-levels (parse src .tree) (low-parse src)
 
+-- An item of a source stands below ROOT.
+pub height-item : (n : ℕ) (again : List Leaf → List Leaf) (ts : List Leaf) → too-many (body-concats (item n again ts .tree)) ≡ false
+    → suc (height (item n again ts .tree)) ≤ open-levels
+height-item n again ts e = omega (arith, low-items n again ts .is, largest-few (body-concats (item n again ts .tree)) e)
+
 pub height-define-body : (src : List ℕ) → too-many (body-concats (parse-define-body src)) ≡ false → height (parse-define-body src) ≤ open-levels
 height-define-body src = few-levels (parse-define-body src) (low-define-body src)

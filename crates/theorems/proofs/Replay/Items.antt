@@ -32,10 +32,10 @@ unfolding text-line
 text-retold ts = retold-lined _ (λ es. none) text (text ts) ts (λ us h. refl) (retold-steady text ts (steady-text ts))
 
 -- Trivia, a HASH and the trivia behind it, in front of a forest.
-abbrev front : List Leaf → Leaf → List Leaf → Forest → Forest
+abbrev pub front : List Leaf → Leaf → List Leaf → Forest → Forest
 front before t behind c = row before ▹ (leaf t (row behind) ▹ c)
 
-leaves-front : (before : List Leaf) (t : Leaf) (behind : List Leaf) (c : Forest) → leaves (front before t behind c) ≡ (before ++ (t ∷ behind)) ++ leaves c
+pub leaves-front : (before : List Leaf) (t : Leaf) (behind : List Leaf) (c : Forest) → leaves (front before t behind c) ≡ (before ++ (t ∷ behind)) ++ leaves c
 unfolding leaves
 leaves-front before t behind c =
     rw
@@ -54,7 +54,7 @@ module _ (n : ℕ) (lex : List Leaf → List Leaf) where
       let q : peek (is Kind.HASH) us ≡ false = peek-heads (is Kind.HASH) (after trivia ts) us h ∙ e in
       rw (w, a, q, item)
 
-  hash-step : (before : List Leaf) (t : Leaf) (ts : List Leaf)
+  pub hash-step : (before : List Leaf) (t : Leaf) (ts : List Leaf)
       → hash-item n lex before (t ∷ ts) ≡ shut (front before t (while trivia ts)) (control-line n lex (after trivia ts))
   unfolding hash-item _then_ bump skip-trivia skip _▹_
   hash-step before t ts = refl
@@ -90,11 +90,11 @@ module _ (n : ℕ) (lex : List Leaf → List Leaf) where
   unfolding file rest-of-row
   file-zero ts = refl
 
-  file-nil : (f : ℕ) → file n lex (suc f) [] ≡ nothing []
+  pub file-nil : (f : ℕ) → file n lex (suc f) [] ≡ nothing []
   unfolding file
   file-nil f = refl
 
-  file-more : (f : ℕ) (t : Leaf) (ts : List Leaf) → file n lex (suc f) (t ∷ ts) ≡ (item n lex then file n lex f) (t ∷ ts)
+  pub file-more : (f : ℕ) (t : Leaf) (ts : List Leaf) → file n lex (suc f) (t ∷ ts) ≡ (item n lex then file n lex f) (t ∷ ts)
   unfolding file _then_
   file-more f t ts = refl
 

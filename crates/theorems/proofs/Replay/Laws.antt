@@ -86,7 +86,7 @@ shut f l =
     }
 
 module _ (before : List Leaf) (f : Forest → Forest) (e : (c : Forest) → leaves (f c) ≡ before ++ leaves c) where
-  leaves-shut : (l : Line) → leaves (shut f l .tree) ≡ before ++ leaves (l .got .tree)
+  pub leaves-shut : (l : Line) → leaves (shut f l .tree) ≡ before ++ leaves (l .got .tree)
   unfolding leaves
   leaves-shut l = go (l .node-kind)
     where
