@@ -36,10 +36,6 @@ closed-is c n e h =
     let z : eqb n LF ≡ false = not-true _ (and-eq-true-iff (ltb n 192) (not (eqb n LF)) .0 x .1) in
     rw e (closed-by n (ltb-true n 192 (and-eq-true-iff (ltb n 192) (not (eqb n LF)) .0 x .0)) (eqb-false n LF z) (eqb-false n CR y))
 
-pub closed-pair : Closed CRLF
-unfolding char-more
-closed-pair = record { none-after = λ b. refl }
-
 -- A byte of a range.
 pub record Within (low high n : ℕ) : Type 0 where
   pub from-low : low ≤ n

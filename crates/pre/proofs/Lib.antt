@@ -6,4 +6,3 @@ pub mod Froms
 pub mod Absorbs
 pub mod Scans
 pub mod Strings
-pub mod Spelling

@@ -1,5 +1,5 @@
 -- The steps of the loops that read one token, over a place of the source.
-use Prim.Native.Nat.{ℕ, zero, suc, _+_, _-_, _^_, _≤_, _<_}
+use Prim.Native.Nat.{ℕ, _+_, _-_, _^_, _≤_, _<_}
 use mathlib.Core.Path.{_≡_, refl, sym, _∙_}
 use mathlib.Core.Bool.{Bool, true, false}
 use mathlib.Core.List.{List}
@@ -21,15 +21,11 @@ use Rattle.pre.proofs.Classes.{Closed, closed-is}
 use Rattle.pre.proofs.Froms.{token, from-end, from-more, go-on, stop-at, done-is, behind-newline}
 
 -- A newline of w bytes stands within the source.
-module _ (j : ℕ) (s : List ℕ) (w : ℕ) where
-  pub below : w ≡ newline-len (chars (drop j s)) → (w ≡ 0 → ⊥) → j < length s
-  below e z = elim (decLt j (length s)) [ yes h ↦ h | no h ↦ absurd (z (e ∙ newline-none s j (omega arith))) ]
-
-  pub within : j ≤ length s → w ≡ newline-len (chars (drop j s)) → j + w ≤ length s
-  within l e = newline-within s j w l e
+below : (s : List ℕ) (j w : ℕ) → w ≡ newline-len (chars (drop j s)) → (w ≡ 0 → ⊥) → j < length s
+below s j w e z = elim (decLt j (length s)) [ yes h ↦ h | no h ↦ absurd (z (e ∙ newline-none s j (omega arith))) ]
 
 pub newline-fits : (s : List ℕ) (j w : ℕ) → length s < 2 ^ 64 → j ≤ length s → w ≡ newline-len (chars (drop j s)) → Fits w64 (j + w)
-newline-fits s j w l h e = omega (arith, within j s w h e)
+newline-fits s j w l h e = omega (arith, newline-within s j w h e)
 
 -- A backslash from which a newline leads back to the state q.
 pub record Back (p : Place) (q : State) : Type 0 where
@@ -58,7 +54,7 @@ module _ (p : Place) (q : State) (k : Back p q) (j : ℕ) (s : List ℕ) (w : �
 
   pub back-go : (w ≡ 0 → ⊥) → from (backslash p) 0 j s ≡ from q 0 (j + w) s
   back-go z =
-      let h : j < length s = below j s w e z in
+      let h : j < length s = below s j w e z in
       from-more (backslash p) 0 j s h q (zero-none _) (k .goes (getD s j 0) (a-newline s j w h e z)) ∙ behind-newline q j s w h e z
 
 -- The token from `at` in the state q₀ is the token from i in the state q.
@@ -100,7 +96,7 @@ module _ (s : List ℕ) (q₀ : State) (at : ℕ) (q : State) (i : ℕ) (k : Sam
 -- What a loop that passes a newline of w bytes needs.
 module _ (s : List ℕ) (i w : ℕ) (h : i < length s) (e : w ≡ newline-len (chars (drop (i + 1) s))) where
   pub passed : i + 1 + w ≤ length s
-  passed = within (i + 1) s w (omega arith) e
+  passed = newline-within s (i + 1) w (omega arith) e
 
   pub passed-fits : length s < 2 ^ 64 → Fits w64 (i + 1 + w)
   passed-fits l = omega (arith, passed)

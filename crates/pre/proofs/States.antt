@@ -1,7 +1,7 @@
 -- What a state does with a byte, by the byte's entry in the table of classes.
 use Prim.Native.Nat.{ℕ, _≤_, _<_}
 use mathlib.Core.Path.{_≡_, refl}
-use mathlib.Core.Bool.{Bool, true, false, _&&_, _||_, not, false≢true, true≢false, and-eq-true-iff, and-true, and-false}
+use mathlib.Core.Bool.{Bool, true, false, _&&_, _||_, not, false≢true, and-eq-true-iff, and-true, and-false}
 use mathlib.Core.Option.{none, some}
 use native.Mathlib.Omega.{arith}
 use lib.Dec.{eqb}
@@ -12,15 +12,8 @@ use Rattle.definition.specs.Newline.{LF, CR, CRLF, letter, digit, newlines, new
 use Rattle.definition.specs.Pre.{done, slash, ident, single-comment, whitespace, backslash, digits, alone, in-digits, begin, flag, more}
 use Rattle.pre.specs.Table.{Entry, punct, entry}
 use Rattle.pre.specs.Scan.{takes-point}
+use Rattle.pre.proofs.Truth.{or-false-left, or-false-right}
 use Rattle.pre.proofs.Classes.{Closed, closed-is, Within, letter-within, digit-within, letter-no-digit, every, of-row, Says, says, no-newline, no-blank}
-
-or-false-left : (x y : Bool) → (x || y) ≡ false → x ≡ false
-or-false-left true y e = absurd (true≢false e)
-or-false-left false y e = refl
-
-or-false-right : (x y : Bool) → (x || y) ≡ false → y ≡ false
-or-false-right true y e = absurd (true≢false e)
-or-false-right false y e = e
 
 -- A sign behind an e.
 data Sign (b : ℕ) : Type 0 where

@@ -1,7 +1,7 @@
 -- What is read from a place of the source.
-use Prim.Native.Nat.{ℕ, suc, _+_, _-_}
+use Prim.Native.Nat.{ℕ, _+_, _-_}
 use mathlib.Core.Bool.{Bool, not, _&&_, _||_}
-use mathlib.Core.List.{List, [], _∷_}
+use mathlib.Core.List.{List}
 use lib.Dec.{eqb, ltb}
 use lib.ListN.{length, drop, take, getD}
 use Rattle.definition.specs.Text.{if_then_else_, byte}
@@ -36,11 +36,6 @@ pre-next l s = if ltb (l .at) (length s) then Token (pre-step l s) else End
 -- How many bytes to pass with the first character of a source: those of a newline, else its first byte.
 unfoldable pub width-at : List ℕ → ℕ
 width-at bs = let w : ℕ = newline-len (chars bs) in if eqb w 0 then 1 else w
-
--- How many bytes the continuation has that a source begins with, a backslash and a newline; 0 if it begins with none.
-unfoldable pub continuation : List ℕ → ℕ
-continuation [] = 0
-continuation (b ∷ bs) = let w : ℕ = newline-len (chars bs) in if eqb b (byte "\\") then (if eqb w 0 then 0 else suc w) else 0
 
 -- Whether a dot, or a sign behind an e, goes on with a number.
 abbrev pub takes-point : ℕ → Bool → Bool → Bool

@@ -1,4 +1,6 @@
 // The pre-lexer: tokens of one or more characters, before operators are glued (`pre.rs`).
+pub mod backslash;
+pub mod character;
 pub mod class;
 pub mod comment;
 pub mod digits;
@@ -7,6 +9,7 @@ pub mod name;
 pub mod punct;
 pub mod string;
 pub mod token;
+pub mod whitespace;
 
 use crate::class::Class;
 use crate::token::Token;
@@ -30,7 +33,7 @@ fn token_at(src: &[u8], table: &[u8; 256], at: usize, angle: bool) -> Token
         return ident::ident(src, table, at + 1);
     }
     if k == Class::WS {
-        return punct::whitespace(src, table, at + 1);
+        return whitespace::whitespace(src, table, at + 1);
     }
     if k == Class::DIGIT {
         return digits::digits(src, table, at + 1);

@@ -1,9 +1,9 @@
 -- The place of a word leads to its row in the reader's table and in the grammar's.
 use Prim.Native.Nat.{ℕ, zero, suc, _≤_}
-use mathlib.Core.Path.{_≡_, refl, sym, ap, _∙_}
+use mathlib.Core.Path.{_≡_, refl, ap, _∙_}
 use mathlib.Core.Bool.{Bool, true, false}
 use mathlib.Core.List.{List, [], _∷_, map}
-use mathlib.Core.Option.{Option, none, some, Option·some-ne-none}
+use mathlib.Core.Option.{Option, none, some}
 use lib.ListN.{length}
 use native.Mathlib.Omega.{arith}
 use Rattle.definition.specs.Text.{same, if_then_else_, ascii}
@@ -63,32 +63,9 @@ finds text w h e = record {
   rest = rest-row words (unescaped text) ∙ ap (row-at _) e;
 }
 
--- Behind the last row there is none, and only there.
+-- Behind the last row there is none.
 pub past : {A : Type 0} (xs : List A) (w : ℕ) → length xs ≤ w → row-at xs w ≡ none
 unfolding row-at
 past [] w h = refl
 past (x ∷ xs) zero h = absurd (omega arith)
 past (x ∷ xs) (suc w) h = past xs w (omega arith)
-
-none-past : {A : Type 0} (xs : List A) (w : ℕ) → row-at xs w ≡ none → length xs ≤ w
-unfolding row-at
-none-past [] w e = omega arith
-none-past (x ∷ xs) zero e = absurd (Option·some-ne-none x e)
-none-past (x ∷ xs) (suc w) e =
-    let h : length xs ≤ w = none-past xs w e in
-    omega (arith, h)
-
--- The row of an answer k, for each n and again; and a word is unknown exactly if no row is named so.
-module _ (text : List ℕ) (w : ℕ) (f : Finds text w) (n : ℕ) (again : List Leaf → List Leaf) where
-  pub found : (k : ℕ) → w ≡ k → named (directives n again) (unescaped text) ≡ row-at (directives n again) k
-  found k e = f .row n again ∙ ap (row-at (directives n again)) e
-
-  pub unknown-none : w ≡ Word.UNKNOWN → named (directives n again) (unescaped text) ≡ none
-  unfolding row-at directives
-  unknown-none e = found Word.UNKNOWN e
-
-  pub none-unknown : named (directives n again) (unescaped text) ≡ none → w ≡ Word.UNKNOWN
-  unfolding directives
-  none-unknown e =
-      let h : Word.UNKNOWN ≤ w = none-past (directives n again) w (sym (f .row n again) ∙ e) in
-      omega (arith, h, f .most)

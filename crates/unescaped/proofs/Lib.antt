@@ -1,2 +1,3 @@
-pub mod Escapes
+pub mod Continuations
+pub mod Comparing
 pub mod Filling

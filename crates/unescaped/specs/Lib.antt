@@ -1,1 +1,1 @@
-pub mod Escape
+pub mod Continuation

@@ -6,15 +6,15 @@ use text::source;
 use text::table;
 ghost use mathlib.Core.Path.{_≡_};
 ghost use lib.ListN.{length, drop};
-ghost use Rattle.definition.specs.Newline.{chars};
+ghost use Rattle.definition.specs.Text.{same};
 ghost use Rattle.definition.specs.Unescaped.{unescaped};
 ghost use Rattle.definition.specs.Calls.{unescaping};
 ghost use Rattle.text.specs.Fills.{Fills, Written};
-ghost use Rattle.unescaped.specs.Escape.{escape-len};
+ghost use Rattle.unescaped.specs.Continuation.{continuation};
 
-// How many bytes the backslash and the newline at a place have; 0: they do not stand there.
-fn escape_at(text: &[u8], at: usize) -> usize
-    ensures { λ r. ⌜ r ≡ escape-len (chars (drop at (now (text .entry)))) ⌝ }
+// How many bytes the continuation at a place has, a backslash and a newline; 0: none stands there.
+fn continuation_at(text: &[u8], at: usize) -> usize
+    ensures { λ r. ⌜ r ≡ continuation (drop at (now (text .entry))) ⌝ }
 {
     if text.len() <= at {
         return 0;
@@ -29,6 +29,30 @@ fn escape_at(text: &[u8], at: usize) -> usize
     w + 1
 }
 
+// Whether the text, unescaped, is the word.
+pub fn eq(text: &[u8], word: &[u8]) -> bool
+    ensures { λ r. ⌜ r ≡ same (unescaped (now (text .entry))) (now (word .entry)) ⌝ }
+{
+    let mut i = 0;
+    let mut k: usize = 0;
+    while i < text.len() {
+        let w = continuation_at(text, i);
+        if w == 0 {
+            if word.len() <= k {
+                return false;
+            }
+            if text[i] != word[k] {
+                return false;
+            }
+            i += 1;
+            k += 1;
+        } else {
+            i += w;
+        }
+    }
+    k == word.len()
+}
+
 // Writes the unescaped text into the output, as far as it goes, and counts all its bytes.
 fn fill(text: &[u8], output: &mut [u8]) -> usize
     ensures { λ r. ⌜ Written (unescaped (now (text .entry))) (now (output .entry)) r (now (output .exit)) ⌝ }
@@ -36,7 +60,7 @@ fn fill(text: &[u8], output: &mut [u8]) -> usize
     let mut n: usize = 0;
     let mut i = 0;
     while i < text.len() {
-        let w = escape_at(text, i);
+        let w = continuation_at(text, i);
         if w == 0 {
             table::put_byte(output, n, text[i]);
             n += 1;

@@ -3,7 +3,8 @@ use Prim.Native.Nat.{_-_}
 use native.Mathlib.Omega.{arith}
 use lib.ListN.{length}
 use Rattle.text.proofs.Cases.{cases}
-use Rattle.unescaped.proofs.Filling.{Filling, start, kept, further, nearer, dropped, same-long, done}
+use Rattle.unescaped.proofs.Continuations.{further, nearer}
+use Rattle.unescaped.proofs.Filling.{Filling, start, kept, dropped, same-long, done}
 use Rattle.unescaped.proofs.fill.Statement.{statement}
 use Rattle.unescaped.proofs.fill.Tie as tie
 

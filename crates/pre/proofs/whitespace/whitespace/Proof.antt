@@ -12,8 +12,8 @@ use Rattle.pre.proofs.Classes.{closed-blank}
 use Rattle.pre.proofs.States.{whitespace-goes, whitespace-stops}
 use Rattle.pre.proofs.Froms.{token}
 use Rattle.pre.proofs.Scans.{Same, same-end, same-go, same-stop}
-use Rattle.pre.proofs.punct.whitespace.Statement.{statement}
-use Rattle.pre.proofs.punct.whitespace.Tie as tie
+use Rattle.pre.proofs.whitespace.whitespace.Statement.{statement}
+use Rattle.pre.proofs.whitespace.whitespace.Tie as tie
 
 module _ (s : List ℕ) (at i : ℕ) (k : Same s whitespace at whitespace i) where
   ended : length s ≤ i → token Kind.WS i ≡ from whitespace 0 at s

@@ -1,4 +1,4 @@
--- `wide` reads up to the next byte that does not go on with a character of several bytes.
+-- `rest_of_character` reads up to the next byte that does not go on with a character of several bytes.
 use Prim.Native.Nat.{ℕ, _+_, _-_, _≤_, _<_}
 use mathlib.Core.Path.{_≡_, refl, sym, _∙_}
 use mathlib.Core.Bool.{false}
@@ -13,8 +13,8 @@ use Rattle.definition.specs.Pre.{done, more, kind-of}
 use Rattle.text.proofs.Cases.{cases}
 use Rattle.pre.specs.Scan.{from}
 use Rattle.pre.proofs.Froms.{token, from-end, from-stop, from-same}
-use Rattle.pre.proofs.punct.wide.Statement.{statement}
-use Rattle.pre.proofs.punct.wide.Tie as tie
+use Rattle.pre.proofs.character.rest_of_character.Statement.{statement}
+use Rattle.pre.proofs.character.rest_of_character.Tie as tie
 
 -- The character goes on up to i.
 record Wide (s : List ℕ) (k b at i : ℕ) : Type 0 where
@@ -50,8 +50,8 @@ Inv-loop src at b kind i₀ i = Wide src kind b at i
 abbrev μ-loop : tie.MeasureT-loop
 μ-loop src at b kind i₀ i = length src - i
 
-pub wide-spec : {M : Type 1} → statement M
-wide-spec =
+pub rest-of-character-spec : {M : Type 1} → statement M
+rest-of-character-spec =
     tie.close
     (tie.spec
     Inv-loop

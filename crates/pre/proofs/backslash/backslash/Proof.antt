@@ -11,8 +11,8 @@ use Rattle.text.proofs.Cases.{cases}
 use Rattle.pre.specs.Scan.{from}
 use Rattle.pre.proofs.Froms.{token, done-is}
 use Rattle.pre.proofs.Scans.{newline-fits, back-stop, back-go, back-alone}
-use Rattle.pre.proofs.punct.backslash.Statement.{statement}
-use Rattle.pre.proofs.punct.backslash.Tie as tie
+use Rattle.pre.proofs.backslash.backslash.Statement.{statement}
+use Rattle.pre.proofs.backslash.backslash.Tie as tie
 
 module _ (s : List ℕ) (at w : ℕ) (v : w ≡ newline-len (chars (drop at s))) where
   bare : w ≡ 0 → token Kind.BACKSLASH at ≡ from (backslash alone) 0 at s
