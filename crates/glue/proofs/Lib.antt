@@ -1,4 +1,3 @@
-pub mod Matches
 pub mod Begins
 pub mod Peeks
 pub mod Periods

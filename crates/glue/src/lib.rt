@@ -1,11 +1,9 @@
 // The glue lexer: operators of several characters (`glue.rs`).
-pub mod operators;
-
-use crate::operators::glue;
 use pre::PreLexer;
 use pre::PreNext;
 use pre::class::Class;
 use syntax_kind::kind::Kind;
+use syntax_kind::operators;
 ghost use mathlib.Core.Path.{_≡_};
 ghost use mathlib.Core.Bool.{false, _&&_};
 ghost use lib.Dec.{eqb};
@@ -13,7 +11,7 @@ ghost use Rattle.definition.specs.Text.{byte};
 ghost use Rattle.definition.specs.SyntaxKind.{Kind as SyntaxKind};
 ghost use Rattle.theorems.specs.Step.{Gluing, Stepped};
 ghost use Rattle.pre.specs.Table.{class-table};
-ghost use Rattle.glue.specs.Next.{Nexts, Operator, peeked};
+ghost use Rattle.glue.specs.Next.{Nexts, Operator, peeked, settled};
 
 // Where the lexer stands, and whether `<` opens a string.
 pub struct Lexer {
@@ -42,15 +40,23 @@ fn opens_string(b: u8, angle: bool) -> bool
     false
 }
 
-// The kind of an operator together with a token that begins with b, 0 where they do not glue.
+// The kind of an operator together with a token that begins with b, 0 where they do not glue. Only `=` and the operator
+// itself glue to it, so `with_equal` and `doubled` are called, which are inlined here, as `operators::glue` is not.
 fn peek(table: &[u8; 256], kind: u8, b: u8, angle: bool) -> u8
-    requires { ⌜ now table ≡ class-table ⌝ }
+    requires { ⌜ (now table ≡ class-table) × (kind ≡ SyntaxKind.PERIOD → ⊥) ⌝ }
     ensures { λ r. ⌜ r ≡ peeked kind b angle ⌝ }
 {
     if opens_string(b, angle) {
         return 0;
     }
-    glue(kind, pre::class::class_of(table, b))
+    let next = pre::class::class_of(table, b);
+    if next == Kind::EQUAL {
+        return operators::with_equal(kind);
+    }
+    if next == kind {
+        return operators::doubled(kind);
+    }
+    0
 }
 
 // The operator of kind `kind` that has been read up to `at`, with what glues to it. Of `start` and `flag`, where the token
@@ -128,6 +134,19 @@ fn period(src: &[u8], table: &[u8; 256], start: usize, flag: bool, at: usize, an
     }
 }
 
+// Whether nothing glues to a token of this kind: a word, a number, a string, trivia, a NEWLINE or an ERROR.
+fn settles(k: u8) -> bool
+    ensures { λ r. ⌜ r ≡ settled k ⌝ }
+{
+    if k < Kind::PERIOD {
+        return true;
+    }
+    if Kind::HASH < k {
+        return k < Kind::LEFT_OP;
+    }
+    false
+}
+
 impl Lexer {
     pub fn new() -> Self
         ensures { λ r. ⌜ (r .input .at ≡ 0) × (r .input .angle ≡ false) ⌝ }
@@ -157,7 +176,7 @@ impl Lexer {
             PreNext::Token(t) => {
                 let k = t.kind;
                 let n = t.next;
-                if operators::settles(k) {
+                if settles(k) {
                     return Next::Token(Step {
                         kind: k,
                         next: Lexer { input: n },

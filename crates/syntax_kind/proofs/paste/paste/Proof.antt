@@ -1,6 +1,7 @@
+-- `paste` pastes two kinds, or refuses.
 use mathlib.Core.Path.{sym, _∙_}
 use borrow.Author.Needs.{needs}
-use Rattle.syntax_kind.proofs.Rows.{left-refused, right-refused, pasted}
+use Rattle.syntax_kind.proofs.Pasting.{left-refused, right-refused, pasted}
 use Rattle.syntax_kind.proofs.paste.paste.Statement.{statement}
 use Rattle.syntax_kind.proofs.paste.paste.Tie as tie
 

@@ -7,8 +7,8 @@ use borrow.Author.Tests.{lt-ltb, le-ltb}
 use Rattle.definition.specs.SyntaxKind.{Kind}
 use Rattle.text.proofs.Cases.{cases}
 use Rattle.glue.specs.Next.{settled}
-use Rattle.glue.proofs.operators.settles.Statement.{statement}
-use Rattle.glue.proofs.operators.settles.Tie as tie
+use Rattle.glue.proofs.settles.Statement.{statement}
+use Rattle.glue.proofs.settles.Tie as tie
 
 module _ (k : ℕ) where
   low : k < Kind.PERIOD → true ≡ settled k
