@@ -12,7 +12,7 @@ use Rattle.definition.specs.Newline.{LF, CR, CRLF, letter, digit, newlines, new
 use Rattle.definition.specs.Pre.{done, slash, ident, single-comment, whitespace, backslash, digits, alone, in-digits, begin, flag, more}
 use Rattle.pre.specs.Table.{Entry, punct, entry}
 use Rattle.pre.specs.Scan.{takes-point}
-use Rattle.pre.proofs.Truth.{or-false-left, or-false-right}
+use Rattle.theorems.proofs.Grammar.Clean.{or-left, or-right}
 use Rattle.pre.proofs.Classes.{Closed, closed-is, Within, letter-within, digit-within, letter-no-digit, every, of-row, Says, says, no-newline, no-blank}
 
 -- A sign behind an e.
@@ -97,10 +97,10 @@ module _ (b k : ℕ) (c : k ≡ entry b) where
 
       module _ (t : takes-point b e d ≡ false) where
         no-dot : (not d && eqb b (byte ".")) ≡ false
-        no-dot = or-false-left (not d && eqb b (byte ".")) _ t
+        no-dot = or-left (not d && eqb b (byte ".")) _ t
 
         no-sign : (e && (eqb b (byte "+") || eqb b (byte "-"))) ≡ false
-        no-sign = or-false-right (not d && eqb b (byte ".")) _ t
+        no-sign = or-right (not d && eqb b (byte ".")) _ t
 
         pub digits-backslash : b ≡ byte "\\" → more (digits e d) b ≡ some (backslash (in-digits e d))
         unfolding more

@@ -15,7 +15,7 @@ use Rattle.definition.specs.Glue.{defined}
 use Rattle.theorems.specs.Walk.{named}
 use Rattle.theorems.proofs.Lexing.Unescapes.{unescaped-other}
 use Rattle.text.proofs.Cases.{cases}
-use Rattle.pre.proofs.Truth.{or-false-left, or-false-right}
+use Rattle.theorems.proofs.Grammar.Clean.{or-left, or-right}
 use Rattle.pre.proofs.name.name.Statement.{statement}
 use Rattle.pre.proofs.name.name.Tie as tie
 
@@ -42,8 +42,8 @@ never s at e k r h l z p q =
     let bs : List ℕ = take (e - at - 1) (drop (suc at) s) in
     let n : at < length s = omega arith in
     let m : e - at ≡ suc (e - at - 1) = omega arith in
-    let x : eqb b (byte "d") ≡ false = or-false-left _ _ (sym p ∙ q) in
-    let y : eqb b (byte "\\") ≡ false = or-false-right (eqb b (byte "d")) _ (sym p ∙ q) in
+    let x : eqb b (byte "d") ≡ false = or-left _ _ (sym p ∙ q) in
+    let y : eqb b (byte "\\") ≡ false = or-right (eqb b (byte "d")) _ (sym p ∙ q) in
     no k _ false z (rw (m, drop-cons s at 0 n, unescaped-other b bs y, x)) refl
 
 pub name-spec : {M : Type 1} → statement M
