@@ -11,7 +11,7 @@ use Rattle.definition.specs.Error.{Err, error-numbers}
 use Rattle.definition.specs.Calls.{padded}
 use Rattle.theorems.proofs.Refusals.{length-errors}
 use Rattle.text.proofs.Tables.{zeros}
-use Rattle.tree.proofs.Sets.{set-right}
+use Rattle.text.proofs.Sets.{set-right}
 use Rattle.error.specs.Log.{Offset, log, adds}
 use Rattle.error.specs.Lines.{located, resolved}
 use Rattle.error.proofs.Adds.{unlocated-numbers, cleared-whole}

@@ -1,6 +1,3 @@
-pub mod Sets
-pub mod Room
-pub mod Puts
 pub mod Patch
 pub mod Steps
 pub mod Runs
