@@ -25,7 +25,7 @@ first-free = record { long = length-replicate {A = ℕ} open-levels 0; clear = �
       | no h ↦ List·getD-eq-default (zeros open-levels) 0 {n = i} (rw (length-replicate {A = ℕ} open-levels 0) (omega arith))
     ]
 
-pub first-standing : (t : List ℕ) → length t < far → Standing (writer t (zeros open-levels) (pen-at 0 0 0))
+pub first-standing : (t : List ℕ) → length t < far → Standing (writer t (zeros open-levels) (pen-at 0 0 0 0))
 first-standing t h = record { free = first-free; stands = within (omega arith); short = h }
 
 module _ (f : Forest) (w : Writer) (r : Ready w f) (room : ℕ) (cleared : w .table ≡ zeros room) (front : w .pen .n ≡ 0) where

@@ -99,7 +99,7 @@ module _ (f : Forest) (t o : List ℕ) (p : Pen) (r : Ready (writer t o p) f) wh
       go (past h) = let k : a ≡ length t = omega (arith, r .standing .short) in rw k (tail-past t (p .n) es (r .standing .short) h)
 
   -- A run on the tail is ready where the run on the whole table is.
-  pub tail-ready : (a : ℕ) → Ready (writer (drop a t) o (at-front p)) f
+  pub tail-ready : (a : ℕ) → Ready (writer (drop a t) o (at-front a p)) f
   tail-ready a = record {
     standing = record { free = r .standing .free; stands = within (omega arith); short = omega (arith, r .standing .short, length-drop a t) };
     low = r .low;
@@ -107,16 +107,16 @@ module _ (f : Forest) (t o : List ℕ) (p : Pen) (r : Ready (writer t o p) f) wh
   }
 
   pub on-tail : (a : ℕ) (u o′ : List ℕ) (q : Pen) → a ≡ tail-start (length t) (p .n)
-      → writer u o′ q ≡ run (writer (drop a t) o (at-front p)) (events f)
-      → writer (take a t ++ u) o′ (rejoined (length t) (p .n) q) ≡ run (writer t o p) (events f)
+      → writer u o′ q ≡ run (writer (drop a t) o (at-front a p)) (events f)
+      → writer (take a t ++ u) o′ (rejoined (length t) p q) ≡ run (writer t o p) (events f)
   on-tail a u o′ q e g =
-      ap (λ w. writer (take a t ++ w .table) (w .levels) (rejoined (length t) (p .n) (w .pen))) (g ∙ writes-after f (writer (drop a t) o (at-front p)) (tail-ready a))
-      ∙ ap (λ x. on x o (p .depth) (p .pos + size f)) (sym (puts-tail a e))
+      ap (λ w. writer (take a t ++ w .table) (w .levels) (rejoined (length t) p (w .pen))) (g ∙ writes-after f (writer (drop a t) o (at-front a p)) (tail-ready a))
+      ∙ ap (λ x. on (p .base) x o (p .depth) (p .pos + size f)) (sym (puts-tail a e))
       ∙ sym (writes-after f (writer t o p) r)
 
   -- The same as code hands the tail on, from a to the end, with the pen v there, and goes on with the pen x.
-  pub lent-tail : (a : ℕ) (v q x : Pen) (u o′ : List ℕ) → a ≡ tail-start (length t) (p .n) → v ≡ at-front p
-      → writer u o′ q ≡ run (writer (take (length t - a) (drop a t)) o v) (events f) → x ≡ rejoined (length t) (p .n) q
+  pub lent-tail : (a : ℕ) (v q x : Pen) (u o′ : List ℕ) → a ≡ tail-start (length t) (p .n) → v ≡ at-front a p
+      → writer u o′ q ≡ run (writer (take (length t - a) (drop a t)) o v) (events f) → x ≡ rejoined (length t) p q
       → writer (putMid a (length t - a) t u) o′ x ≡ run (writer t o p) (events f)
   lent-tail a v q x u o′ e i g j =
       let h : a ≤ length t = omega arith in

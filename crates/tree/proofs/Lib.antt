@@ -4,3 +4,4 @@ pub mod Runs
 pub mod Writes
 pub mod LentTail
 pub mod Cleared
+pub mod Places

@@ -56,3 +56,15 @@ pub length-run : (w : Writer) (es : List Event) → length (run w es .table) ≡
 unfolding run
 length-run w [] = refl
 length-run w (e ∷ es) = length-run (step e w) es ∙ length-step e w
+
+-- How many numbers lie before the part that is written into.
+step-base : (e : Event) (w : Writer) → step e w .pen .base ≡ w .pen .base
+unfolding step leafed
+step-base Open w = refl
+step-base (Shut k) w = refl
+step-base (Leaf k a b) w = refl
+
+pub run-base : (w : Writer) (es : List Event) → run w es .pen .base ≡ w .pen .base
+unfolding run
+run-base w [] = refl
+run-base w (e ∷ es) = run-base (step e w) es ∙ step-base e w

@@ -36,9 +36,9 @@ opened-free d x o h = record {
 shut-free : (d x : ℕ) (o : List ℕ) → Free d o → set (set o d x) d 0 ≡ o
 shut-free d x o h = set-set o d x 0 ∙ ap (set o d) (sym (h .clear d (omega arith))) ∙ set-getD o d 0
 
--- A writer with that page, those levels, depth and position.
-abbrev pub on : Page → List ℕ → ℕ → ℕ → Writer
-on p o d a = writer (p .table) o (pen-at (p .n) d a)
+-- A writer with that base, page, levels, depth and position.
+abbrev pub on : ℕ → Page → List ℕ → ℕ → ℕ → Writer
+on b p o d a = writer (p .table) o (pen-at b (p .n) d a)
 
 abbrev pub page-of : Writer → Page
 page-of w = page (w .table) (w .pen .n)
@@ -46,21 +46,21 @@ page-of w = page (w .table) (w .pen .n)
 -- A node begins where a level is left.
 open-step : (w : Writer) → w .pen .depth < open-levels
     → step Open w
-    ≡ on (enter (open-entry (w .pen .depth) (w .pen .pos)) (page-of w)) (set (w .levels) (w .pen .depth) (w .pen .n)) (w .pen .depth + 1) (w .pen .pos)
+    ≡ on (w .pen .base) (enter (open-entry (w .pen .depth) (w .pen .pos)) (page-of w)) (set (w .levels) (w .pen .depth) (w .pen .n)) (w .pen .depth + 1) (w .pen .pos)
 unfolding step
 open-step w h = rw (lt-ltb (w .pen .depth) open-levels h)
 
 -- The writer once the entries of a row of trees are put into its table.
 abbrev pub after : Writer → Forest → Writer
-after w f = on (puts numbers (page-of w) (entries-at w f)) (w .levels) (w .pen .depth) (w .pen .pos + size f)
+after w f = on (w .pen .base) (puts numbers (page-of w) (entries-at w f)) (w .levels) (w .pen .depth) (w .pen .pos + size f)
 
 -- That is where its events lead.
 abbrev Leads : Writer → Forest → Type 0
 Leads w f = run w (events f) ≡ after w f
 
-module _ (p : Page) (o : List ℕ) (d : ℕ) where
+module _ (b : ℕ) (p : Page) (o : List ℕ) (d : ℕ) where
   -- A leaf, and the rest of the row behind it.
-  leaf-leads : (x : Leaf) (f : Forest) → Leads (on (enter (leaf-entry (x .kind) d (x .start) (stop x)) p) o d (stop x)) f → Leads (on p o d (x .start)) (leaf x f)
+  leaf-leads : (x : Leaf) (f : Forest) → Leads (on b (enter (leaf-entry (x .kind) d (x .start) (stop x)) p) o d (stop x)) f → Leads (on b p o d (x .start)) (leaf x f)
   unfolding run events entries puts size step leafed
   leaf-leads x f ih = ih ∙ rw (add-assoc (x .start) (long x) (size f))
 
@@ -70,47 +70,47 @@ module _ (p : Page) (o : List ℕ) (d : ℕ) where
     end = a + size g
 
     abbrev opened : Writer
-    opened = on (enter (open-entry d a) p) (set o d (p .n)) (d + 1) a
+    opened = on b (enter (open-entry d a) p) (set o d (p .n)) (d + 1) a
 
     abbrev with-node : Page
     with-node = puts numbers (enter (node-entry k d a end) p) (entries (d + 1) a g)
 
-    node-after : (f : Forest) → after (on with-node o d end) f ≡ after (on p o d a) (node k g f)
+    node-after : (f : Forest) → after (on b with-node o d end) f ≡ after (on b p o d a) (node k g f)
     unfolding entries puts size
     node-after f = rw (puts-++ numbers (enter (node-entry k d a end) p) (entries (d + 1) a g) (entries d end f), add-assoc a (size g) (size f))
 
-    module _ (h : d < open-levels) (c : Free d o) (b : length (p .table) ≤ far) where
-      shuts : step (Shut k) (after opened g) ≡ on with-node o d end
+    module _ (h : d < open-levels) (c : Free d o) (s : length (p .table) ≤ far) where
+      shuts : step (Shut k) (after opened g) ≡ on b with-node o d end
       unfolding step
       shuts =
           let m : d + 1 - 1 ≡ d = omega arith in
           let i : d < length o = omega (arith, c .long) in
           rw (m, lt-ltb d open-levels h, getD-set-same o d (p .n) 0 i, shut-free d (p .n) o c)
-          (ap (λ q. on q o d end) (patched-later (p .table) (p .n) k d a end (entries (d + 1) a g) b))
+          (ap (λ q. on b q o d end) (patched-later (p .table) (p .n) k d a end (entries (d + 1) a g) s))
 
-      node-leads : (f : Forest) → Leads opened g → Leads (on with-node o d end) f → Leads (on p o d a) (node k g f)
-      node-leads f inner rest = run-node (on p o d a) k g f ∙ rw (open-step (on p o d a) h, inner, shuts) (rest ∙ node-after f)
+      node-leads : (f : Forest) → Leads opened g → Leads (on b with-node o d end) f → Leads (on b p o d a) (node k g f)
+      node-leads f inner rest = run-node (on b p o d a) k g f ∙ rw (open-step (on b p o d a) h, inner, shuts) (rest ∙ node-after f)
 
 -- By the shape of the row; ls are the leaves behind it.
-leads : (f : Forest) (ls : List Leaf) (p : Page) (o : List ℕ) (d a : ℕ) → d + height f ≤ open-levels → Placed a (leaves f ++ ls) → Free d o
-    → length (p .table) ≤ far → Leads (on p o d a) f
+leads : (f : Forest) (ls : List Leaf) (b : ℕ) (p : Page) (o : List ℕ) (d a : ℕ) → d + height f ≤ open-levels → Placed a (leaves f ++ ls) → Free d o
+    → length (p .table) ≤ far → Leads (on b p o d a) f
 unfolding run events entries puts size height leaves Placed
-leads nil ls p o d a low h c b = rw (add-zero a)
-leads (leaf x f) ls p o d a low h c b =
+leads nil ls b p o d a low h c s = rw (add-zero a)
+leads (leaf x f) ls b p o d a low h c s =
     let e : Entry = leaf-entry (x .kind) d (x .start) (stop x) in
     let q : Placed (stop x) (leaves f ++ ls) = rw (h .0) (h .2) in
     subst
-    (λ y. Leads (on p o d y) (leaf x f))
+    (λ y. Leads (on b p o d y) (leaf x f))
     (h .0)
-    (leaf-leads p o d x f (leads f ls (enter e p) o d (stop x) low q c (rw (length-put (numbers e) (p .table) (p .n)) b)))
-leads (node k g f) ls p o d a low h c b =
+    (leaf-leads b p o d x f (leads f ls b (enter e p) o d (stop x) low q c (rw (length-put (numbers e) (p .table) (p .n)) s)))
+leads (node k g f) ls b p o d a low h c s =
     let q : Placed a (leaves g ++ (leaves f ++ ls)) = rw append-assoc at h in
     let e : Entry = open-entry d a in
-    let m : length (with-node p o d a k g .table) ≡ length (p .table)
+    let m : length (with-node b p o d a k g .table) ≡ length (p .table)
     = length-puts numbers _ (entries (d + 1) a g) ∙ length-put (numbers (node-entry k d a (a + size g))) (p .table) (p .n) in
-    node-leads p o d a k g (omega arith) c b f
-    (leads g (leaves f ++ ls) (enter e p) (set o d (p .n)) (d + 1) a (omega arith) q (opened-free d (p .n) o c) (rw (length-put (numbers e) (p .table) (p .n)) b))
-    (leads f ls (with-node p o d a k g) o d (a + size g) (omega arith) (placed-past a g (leaves f ++ ls) q) c (rw m b))
+    node-leads b p o d a k g (omega arith) c s f
+    (leads g (leaves f ++ ls) b (enter e p) (set o d (p .n)) (d + 1) a (omega arith) q (opened-free d (p .n) o c) (rw (length-put (numbers e) (p .table) (p .n)) s))
+    (leads f ls b (with-node b p o d a k g) o d (a + size g) (omega arith) (placed-past a g (leaves f ++ ls) q) c (rw m s))
 
 -- The numbers of entries, row by row.
 all-numbers : (es : List Entry) → flatMap numbers es ≡ entry-numbers es
@@ -128,7 +128,7 @@ module _ (f : Forest) (w : Writer) (r : Ready w f) where
 
   pub writes-after : run w (events f) ≡ after w f
   writes-after =
-      leads f [] (page-of w) (w .levels) (w .pen .depth) (w .pen .pos) (r .low) (rw append-nil (r .placed)) (r .standing .free) bound
+      leads f [] (w .pen .base) (page-of w) (w .levels) (w .pen .depth) (w .pen .pos) (r .low) (rw append-nil (r .placed)) (r .standing .free) bound
 
   pub writes-laid : Laid (entry-numbers es) (page-of w) (page-of (run w (events f)))
   writes-laid =
@@ -139,6 +139,7 @@ module _ (f : Forest) (w : Writer) (r : Ready w f) where
       let l : length (entry-numbers es) ≡ Width.entry * length es = length-entries es in
       record {
         levels-kept = refl;
+        base-kept = refl;
         depth-kept = refl;
         pos-is = refl;
         long-kept = k .long-kept;

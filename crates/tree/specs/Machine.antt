@@ -64,8 +64,8 @@ set-level levels d n = if ltb d open-levels then set levels d n else levels
 abbrev pub one-deeper : ℕ → ℕ
 one-deeper d = if ltb d open-levels then d + 1 else d
 
-abbrev pub pen-at : ℕ → ℕ → ℕ → Pen
-pen-at n depth pos = record { n = n; depth = depth; pos = pos }
+abbrev pub pen-at : ℕ → ℕ → ℕ → ℕ → Pen
+pen-at base n depth pos = record { base = base; n = n; depth = depth; pos = pos }
 
 -- A table, and the pen that writes into it.
 pub record Sheet : Type 0 where
@@ -92,7 +92,7 @@ unfoldable pub leafed : ℕ → ℕ → ℕ → Sheet → Sheet
 leafed kind start end s =
     let p = s .pen in
     let q = enter (leaf-entry kind (p .depth) start end) (page (s .table) (p .n)) in
-    sheet (q .table) (pen-at (q .n) (p .depth) end)
+    sheet (q .table) (pen-at (p .base) (q .n) (p .depth) end)
 
 unfoldable pub leafs : Sheet → List tree.Leaf → Sheet  -- A row of leaves.
 leafs s [] = s
@@ -103,11 +103,11 @@ unfoldable pub step : Event → Writer → Writer
 step Open w =
     let p = w .pen in
     let q = enter (open-entry (p .depth) (p .pos)) (page (w .table) (p .n)) in
-    writer (q .table) (set-level (w .levels) (p .depth) (p .n)) (pen-at (q .n) (one-deeper (p .depth)) (p .pos))
+    writer (q .table) (set-level (w .levels) (p .depth) (p .n)) (pen-at (p .base) (q .n) (one-deeper (p .depth)) (p .pos))
 step (Shut k) w =
     let p = w .pen in
     let d = p .depth - 1 in
-    writer (patched (w .table) (level-at (w .levels) d) k (p .pos)) (set-level (w .levels) d 0) (pen-at (p .n) d (p .pos))
+    writer (patched (w .table) (level-at (w .levels) d) k (p .pos)) (set-level (w .levels) d 0) (pen-at (p .base) (p .n) d (p .pos))
 step (Leaf k a b) w = with-levels (w .levels) (leafed k a b (sheet (w .table) (w .pen)))
 
 -- A row of events.

@@ -36,6 +36,7 @@ end-at w f = w .pen .n + Width.entry * length (entries-at w f)
 -- The events of f took w to w′.
 pub record Wrote (f : Forest) (w w′ : Writer) : Type 0 where
   pub levels-kept : w′ .levels ≡ w .levels
+  pub base-kept : w′ .pen .base ≡ w .pen .base
   pub depth-kept : w′ .pen .depth ≡ w .pen .depth
   pub pos-is : w′ .pen .pos ≡ w .pen .pos + size f
   pub long-kept : length (w′ .table) ≡ length (w .table)
