@@ -7,7 +7,7 @@ use mathlib.Core.List.{List, [], _∷_, _++_, append-assoc, append-nil}
 use mir.Val.{Fits}
 use mir.Syntax.{w32}
 use lib.ListN.{length, drop, drop-of-length-le}
-use Rattle.definition.specs.Runs.{text, grouped}
+use Rattle.definition.specs.Runs.{grouped}
 use Rattle.definition.specs.Newline.{chars}
 use Rattle.definition.specs.Pre.{pres}
 use Rattle.definition.specs.Glue.{tokens, token-numbers}

@@ -8,7 +8,7 @@ use borrow.Author.Tests.{lt-ltb, le-ltb}
 use borrow.Rule.Slice.PartMut.{putMid}
 use lib.ListN.{length, take, drop, length-append, length-drop, take-append-drop}
 use lib.Seq.{sets, length-sets, length-take-le, take-all, take-length}
-use Rattle.definition.specs.Tree.{Forest, size, Entry, entry-numbers}
+use Rattle.definition.specs.Tree.{Forest, size, Entry}
 use Rattle.text.specs.Row.{far, Page, page}
 use Rattle.text.proofs.Parts.{part-is, part-back}
 use Rattle.text.proofs.Sets.{sets-right}

@@ -5,8 +5,8 @@ use mathlib.Core.List.{List, [], _∷_, _++_, flatMap, append-assoc, append-nil}
 use native.Mathlib.Nat.{add-assoc, add-zero}
 use native.Mathlib.Omega.{arith}
 use borrow.Author.Tests.{lt-ltb}
-use lib.ListN.{length, take, drop, set, length-set}
-use lib.Seq.{sets, sets-eq, set-set, getD-set-same, getD-set-other, set-getD}
+use lib.ListN.{length, set, length-set}
+use lib.Seq.{sets-eq, set-set, getD-set-same, getD-set-other, set-getD}
 use Rattle.definition.specs.Tree.{Leaf, long, stop, Forest, nil, leaf, node, leaves, size, Entry, Width, entries, entry-numbers}
 use Rattle.theorems.specs.Placed.{Placed}
 use Rattle.theorems.proofs.Refusals.{length-entries}
@@ -14,7 +14,7 @@ use Rattle.theorems.specs.Height.{height, open-levels}
 use Rattle.text.specs.Row.{far, Page, page, Laid}
 use Rattle.text.proofs.Rows.{length-put, put-stands, puts, puts-++, length-puts, laid-none, puts-laid}
 use Rattle.tree.specs.Machine.{Open, Shut, events, numbers, leaf-entry, node-entry, open-entry, enter, pen-at, Writer, writer, leafed, step, run}
-use Rattle.tree.specs.Writes.{Free, Standing, Ready, entries-at, end-at, Wrote}
+use Rattle.tree.specs.Writes.{Free, Standing, Ready, entries-at, Wrote}
 use Rattle.tree.proofs.Patch.{patched-later}
 use Rattle.tree.proofs.Runs.{run-node}
 

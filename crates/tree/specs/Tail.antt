@@ -12,7 +12,7 @@ use Rattle.tree.specs.Machine.{far, pen-at}
 abbrev pub tail-start : ℕ → ℕ → ℕ
 tail-start room n = min n room
 
--- How many numbers of the whole table lie before the tail that begins at a of a part, where so many lie before the part.
+-- How many numbers of the whole table lie before the tail that begins at a of a part, by how many lie before the part.
 abbrev pub tail-base : ℕ → ℕ → ℕ
 tail-base base a = min (base + a) far
 

@@ -14,7 +14,7 @@ pub fn start(room: usize, n: usize) -> usize
     room
 }
 
-// How many numbers of the whole table lie before the tail that begins at a of a part, where so many lie before the part; FAR: too many for any table.
+// How many numbers of the whole table lie before the tail that begins at a of a part, where `before` lie before the part; FAR: more than a table has.
 pub fn base(before: usize, a: usize) -> usize
     ensures { λ r. ⌜ r ≡ tail-base before a ⌝ }
 {
@@ -37,7 +37,7 @@ fn behind(room: usize, n: usize, m: usize) -> usize
     n + m
 }
 
-// A pen that wrote into the tail of a table, on that table again: where it stood there before, the tail was handed on.
+// A pen that wrote into the tail of a table, on that table again; `before` is the pen that stood there when the tail was handed on.
 pub fn rejoin(room: usize, before: Pen, pen: Pen) -> Pen
     ensures { λ r. ⌜ r ≡ rejoined room before pen ⌝ }
 {
