@@ -1,5 +1,5 @@
 -- Lines and columns filled in behind errors that were added: the table holds the errors' numbers under the line table.
-use Prim.Native.Nat.{ℕ, suc, _+_, _-_, _≤_}
+use Prim.Native.Nat.{ℕ, _+_, _-_, _≤_}
 use mathlib.Core.Path.{_≡_, refl, ap, sym, _∙_}
 use mathlib.Core.List.{List, [], _∷_, _++_, append-assoc}
 use native.Mathlib.Omega.{arith}
@@ -11,7 +11,7 @@ use Rattle.definition.specs.Error.{Err, error-numbers}
 use Rattle.definition.specs.Calls.{padded}
 use Rattle.theorems.proofs.Refusals.{length-errors}
 use Rattle.text.proofs.Tables.{zeros}
-use Rattle.tree.proofs.Sets.{set-right}
+use Rattle.text.proofs.Sets.{set-right}
 use Rattle.error.specs.Log.{Offset, log, adds}
 use Rattle.error.specs.Lines.{located, resolved}
 use Rattle.error.proofs.Adds.{unlocated-numbers, cleared-whole}

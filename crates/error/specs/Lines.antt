@@ -7,7 +7,8 @@ use lib.ListN.{length, take, getD, set}
 use Rattle.definition.specs.Text.{if_then_else_}
 use Rattle.definition.specs.Tree.{Width}
 use Rattle.definition.specs.LineMap.{get-line-and-col, line-table}
-use Rattle.error.specs.Log.{Offset, fits}
+use Rattle.text.specs.Row.{fits}
+use Rattle.error.specs.Log.{Offset}
 
 -- The first numbers of a table are a line table.
 pub record Starts (lines : List ℕ) (count : ℕ) : Type 0 where
@@ -25,7 +26,7 @@ pub record Found (lines : List ℕ) (count offset line : ℕ) : Type 0 where
 unfoldable pub located : List ℕ → List ℕ → ℕ → List ℕ
 located lines t n =
     let at = get-line-and-col lines (getD t (n + Offset.start) 0) in
-    if fits t n then set (set t (n + Offset.line) (at .line)) (n + Offset.column) (at .column) else t
+    if fits Width.error t n then set (set t (n + Offset.line) (at .line)) (n + Offset.column) (at .column) else t
 
 -- and with those of so many errors from n on.
 unfoldable pub resolved : List ℕ → List ℕ → ℕ → ℕ → List ℕ

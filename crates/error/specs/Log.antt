@@ -1,19 +1,14 @@
 -- The error log as a total machine: an error's ten numbers are written where they fit.
-use Prim.Native.Nat.{ℕ, _+_}
-use mathlib.Core.Bool.{Bool}
+use Prim.Native.Nat.{ℕ}
 use mathlib.Core.List.{List, [], _∷_}
-use lib.Dec.{leb}
-use lib.ListN.{length, getD}
-use lib.Seq.{sets}
-use Rattle.definition.specs.Text.{if_then_else_}
-use Rattle.definition.specs.Tree.{Width}
+use lib.ListN.{getD}
 use Rattle.definition.specs.Error.{Err}
-use Rattle.tree.specs.Machine.{far}
+use Rattle.text.specs.Row.{Page, page, put}
 use Rattle.error.specs.declared.Fault.{Fault}
 
--- Where the numbers of an error stand, counted from its first, the sort.
-abbrev pub Offset : record { start : ℕ; end : ℕ; line : ℕ; column : ℕ; actual : ℕ; expected1 : ℕ; expected2 : ℕ; first : ℕ; past : ℕ }
-Offset = record { start = 1; end = 2; line = 3; column = 4; actual = 5; expected1 = 6; expected2 = 7; first = 8; past = 9 }
+-- Where the start, the line and the column of an error stand, counted from its first number, the sort.
+abbrev pub Offset : record { start : ℕ; line : ℕ; column : ℕ }
+Offset = record { start = 1; line = 3; column = 4 }
 
 -- An error of the definition as it is met: up to two expected kinds, 0 where there is none.
 abbrev pub fault-of : Err → Fault
@@ -38,20 +33,14 @@ numbers e =
     ∷ e .actual ∷ e .expected1 ∷ e .expected2 ∷ e .first ∷ e .past ∷ []
 
 -- The error table, and the place of its next error.
-pub record Log : Type 0 where
-  pub table : List ℕ
-  pub n : ℕ
+abbrev pub Log : Type 0
+Log = Page
 
 abbrev pub log : List ℕ → ℕ → Log
-log t n = record { table = t; n = n }
+log t n = page t n
 
--- Whether a table has room for an error at n.
-unfoldable pub fits : List ℕ → ℕ → Bool
-fits t n = leb (n + Width.error) (length t)
-
--- One error more: its numbers, if they fit; else the next place is the far one, where nothing fits.
-unfoldable pub add : Fault → Log → Log
-add e l = if fits (l .table) (l .n) then log (sets (l .table) (l .n) (numbers e)) (l .n + Width.error) else log (l .table) far
+unfoldable pub add : Fault → Log → Log  -- One error more.
+add e l = put (numbers e) l
 
 unfoldable pub adds : Log → List Err → Log  -- A row of errors.
 adds l [] = l

@@ -1,33 +1,20 @@
 // The error log: errors as they are met, written into a lent table of ten numbers each (error.rs).
 pub mod lines;
 
-use text::table;
-use tree::entry::FAR;
+use text::row::put_row;
 ghost use mathlib.Core.Path.{_≡_};
 ghost use Prim.Native.Nat.{_/_};
 ghost use Rattle.definition.specs.Tree.{Width};
 ghost use Rattle.error.specs.Log.{log, add};
 
-// How many numbers an error has, and where each stands behind the first, its sort.
+// How many numbers an error has, and where its start, its line and its column stand behind the first, its sort.
 const WIDTH: usize = 10;
 
 const START: usize = 1;
 
-const END: usize = 2;
-
 const LINE: usize = 3;
 
 const COLUMN: usize = 4;
-
-const ACTUAL: usize = 5;
-
-const EXPECTED1: usize = 6;
-
-const EXPECTED2: usize = 7;
-
-const FIRST: usize = 8;
-
-const PAST: usize = 9;
 
 // The line and the column of an error before they are filled in.
 const UNLOCATED: u32 = 0;
@@ -48,20 +35,22 @@ pub struct Fault {
 pub fn push_error(table: &mut [u32], n: usize, e: Fault) -> usize
     ensures { λ r. ⌜ log (now (table .exit)) r ≡ add e (log (now (table .entry)) n) ⌝ }
 {
-    if WIDTH <= table::rest(table, n) {
-        table[n] = e.sort;
-        table[n + START] = e.start;
-        table[n + END] = e.end;
-        table[n + LINE] = UNLOCATED;
-        table[n + COLUMN] = UNLOCATED;
-        table[n + ACTUAL] = e.actual;
-        table[n + EXPECTED1] = e.expected1;
-        table[n + EXPECTED2] = e.expected2;
-        table[n + FIRST] = e.first;
-        table[n + PAST] = e.past;
-        return n + WIDTH;
-    }
-    FAR
+    put_row(
+        table,
+        n,
+        &[
+            e.sort,
+            e.start,
+            e.end,
+            UNLOCATED,
+            UNLOCATED,
+            e.actual,
+            e.expected1,
+            e.expected2,
+            e.first,
+            e.past,
+        ],
+    )
 }
 
 // How many errors lie before the place n.

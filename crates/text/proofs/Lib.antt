@@ -4,5 +4,7 @@ pub mod Outcomes
 pub mod Refusals
 pub mod Tables
 pub mod Parts
+pub mod Sets
+pub mod Rows
 pub mod Utf8s
 pub mod Ascii

@@ -1,8 +1,8 @@
 -- The rest of a table from a place on, lent to a callee and come back.
 use Prim.Native.Nat.{ℕ, _+_, _-_, _≤_}
 use native.Mathlib.Omega.{arith}
-use mathlib.Core.Path.{_≡_, refl, sym, ap, _∙_}
-use mathlib.Core.List.{List, [], _∷_, _++_, append-nil}
+use mathlib.Core.Path.{_≡_, ap, _∙_}
+use mathlib.Core.List.{List, _++_, append-nil}
 use lib.ListN.{length, take, drop, length-drop}
 use lib.Seq.{take-all, drop-length, sets, sets-eq, length-sets, take-append-seam}
 use borrow.Rule.Slice.PartMut.{putMid, post-is}

@@ -1,6 +1,7 @@
 // What the calls share: the UTF-8 check, newlines, lent tables, the refusals of a source, and the answer of a call that fills a table.
 pub mod newline;
 pub mod refusal;
+pub mod row;
 pub mod source;
 pub mod table;
 pub mod utf8;

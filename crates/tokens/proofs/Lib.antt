@@ -1,3 +1,2 @@
-pub mod Putting
 pub mod Listing
 pub mod Outcomes

@@ -5,17 +5,18 @@ use pre::PreLexer;
 use pre::class;
 use text::Counted;
 use text::refusal;
+use text::row::FAR;
+use text::row::put_row;
 use text::source;
 use text::table;
 ghost use mathlib.Core.Path.{_≡_};
 ghost use mathlib.Core.Bool.{false};
-ghost use mathlib.Core.List.{[], _∷_};
 ghost use Prim.Native.Nat.{_≤_};
 ghost use lib.ListN.{length};
-ghost use lib.Seq.{sets};
 ghost use Rattle.definition.specs.Glue.{tokens, token-numbers};
 ghost use Rattle.definition.specs.Calls.{longest-source, listing-tokens};
-ghost use Rattle.text.specs.Fills.{Fills, Written};
+ghost use Rattle.text.specs.Fills.{Fills};
+ghost use Rattle.text.specs.Row.{page, Laid};
 
 // How many numbers a token has.
 const WIDTH: usize = 3;
@@ -27,26 +28,10 @@ fn wide(kind: u8) -> u32
     kind as u32
 }
 
-// Puts a token at place n, as far as the table goes.
-fn put_token(t: &mut [u32], n: usize, kind: u32, start: u32, end: u32)
-    ensures { λ _. ⌜ now (t .exit) ≡ sets (now (t .entry)) n (kind ∷ start ∷ end ∷ []) ⌝ }
-{
-    if n < t.len() {
-        let room = t.len() - n;
-        t[n] = kind;
-        if 1 < room {
-            t[n + 1] = start;
-            if 2 < room {
-                t[n + 2] = end;
-            }
-        }
-    }
-}
-
-// Writes the numbers of the tokens into a table, as far as it goes, and counts them all.
+// Writes the numbers of the tokens into a table, and gives the place behind them; FAR if they don't fit.
 fn fill(src: &[u8], t: &mut [u32]) -> usize
     requires { ⌜ length (now src) ≤ longest-source ⌝ }
-    ensures { λ r. ⌜ Written (token-numbers 0 (tokens false (now (src .entry)))) (now (t .entry)) r (now (t .exit)) ⌝ }
+    ensures { λ r. ⌜ Laid (token-numbers 0 (tokens false (now (src .entry)))) (page (now (t .entry)) 0) (page (now (t .exit)) r) ⌝ }
 {
     let classes = class::class_table();
     let mut lexer = Lexer::new();
@@ -59,11 +44,10 @@ fn fill(src: &[u8], t: &mut [u32]) -> usize
                 let input = next.input;
                 let end = input.at;
                 let angle = input.angle;
-                put_token(t, n, wide(step.kind), at as u32, end as u32);
+                n = put_row(t, n, &[wide(step.kind), at as u32, end as u32]);
                 lexer = Lexer {
                     input: PreLexer { at: end, angle },
                 };
-                n += WIDTH;
                 at = end;
             }
             Next::End => {
@@ -86,7 +70,7 @@ pub fn list(src: &[u8], tokens: &mut [u32]) -> Counted
         };
     }
     let n = fill(src, tokens);
-    if tokens.len() < n {
+    if n == FAR {
         table::clear(tokens);
         return Counted {
             refusal: refusal::SHORT_ENTRIES,

@@ -1,9 +1,7 @@
-pub mod Sets
-pub mod Room
-pub mod Puts
 pub mod Patch
 pub mod Steps
 pub mod Runs
 pub mod Writes
 pub mod LentTail
 pub mod Cleared
+pub mod Places

@@ -5,8 +5,9 @@ use mathlib.Core.List.{List, [], _∷_, _++_, append-assoc}
 use lib.ListN.{length}
 use Rattle.definition.specs.Tree.{Forest, nil, leaf, node, _▹_, row}
 use Rattle.definition.specs.Tree as tree
-use Rattle.tree.specs.Machine.{Event, Open, Shut, Leaf, leaf-event, events, open-entry, Sheet, Writer, with-levels, leafed, leafs, step, run}
-use Rattle.tree.proofs.Room.{length-written, length-patched}
+use Rattle.text.proofs.Rows.{length-put}
+use Rattle.tree.specs.Machine.{Event, Open, Shut, Leaf, leaf-event, events, numbers, open-entry, Sheet, Writer, with-levels, leafed, leafs, step, run}
+use Rattle.tree.proofs.Patch.{length-patched}
 
 pub run-++ : (w : Writer) (a b : List Event) → run w (a ++ b) ≡ run (run w a) b
 unfolding run
@@ -47,11 +48,23 @@ run-row o s (t ∷ ts) = run-row o (leafed (t .kind) (t .start) (tree.stop t) s)
 -- The length of the table.
 length-step : (e : Event) (w : Writer) → length (step e w .table) ≡ length (w .table)
 unfolding step leafed
-length-step Open w = length-written (w .table) (w .pen .n) (open-entry (w .pen .depth) (w .pen .pos))
+length-step Open w = length-put (numbers (open-entry (w .pen .depth) (w .pen .pos))) (w .table) (w .pen .n)
 length-step (Shut k) w = length-patched (w .table) _ k (w .pen .pos)
-length-step (Leaf k a b) w = length-written (w .table) (w .pen .n) _
+length-step (Leaf k a b) w = length-put _ (w .table) (w .pen .n)
 
 pub length-run : (w : Writer) (es : List Event) → length (run w es .table) ≡ length (w .table)
 unfolding run
 length-run w [] = refl
 length-run w (e ∷ es) = length-run (step e w) es ∙ length-step e w
+
+-- How many numbers lie before the part that is written into.
+step-base : (e : Event) (w : Writer) → step e w .pen .base ≡ w .pen .base
+unfolding step leafed
+step-base Open w = refl
+step-base (Shut k) w = refl
+step-base (Leaf k a b) w = refl
+
+pub run-base : (w : Writer) (es : List Event) → run w es .pen .base ≡ w .pen .base
+unfolding run
+run-base w [] = refl
+run-base w (e ∷ es) = run-base (step e w) es ∙ step-base e w

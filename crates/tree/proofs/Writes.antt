@@ -1,20 +1,20 @@
 -- The events of a row of trees write its entries.
 use Prim.Native.Nat.{ℕ, _+_, _-_, _*_, _≤_, _<_}
 use mathlib.Core.Path.{_≡_, refl, ap, sym, _∙_, subst}
-use mathlib.Core.List.{List, [], _++_, append-assoc, append-nil}
+use mathlib.Core.List.{List, [], _∷_, _++_, flatMap, append-assoc, append-nil}
 use native.Mathlib.Nat.{add-assoc, add-zero}
 use native.Mathlib.Omega.{arith}
 use borrow.Author.Tests.{lt-ltb}
-use lib.ListN.{length, take, drop, set, length-set}
-use lib.Seq.{sets, sets-eq, set-set, getD-set-same, getD-set-other, set-getD}
+use lib.ListN.{length, set, length-set}
+use lib.Seq.{sets-eq, set-set, getD-set-same, getD-set-other, set-getD}
 use Rattle.definition.specs.Tree.{Leaf, long, stop, Forest, nil, leaf, node, leaves, size, Entry, Width, entries, entry-numbers}
 use Rattle.theorems.specs.Placed.{Placed}
 use Rattle.theorems.proofs.Refusals.{length-entries}
 use Rattle.theorems.specs.Height.{height, open-levels}
-use Rattle.tree.specs.Machine.{Open, Shut, events, far, leaf-entry, node-entry, open-entry, written, next, pen-at, Writer, writer, leafed, step, run}
-use Rattle.tree.specs.Writes.{Free, Standing, Ready, entries-at, end-at, Wrote}
-use Rattle.tree.proofs.Room.{length-written}
-use Rattle.tree.proofs.Puts.{Page, page, put, puts, puts-++, length-puts, next-stands, puts-stands, puts-whole, puts-lost}
+use Rattle.text.specs.Row.{far, Page, page, Laid}
+use Rattle.text.proofs.Rows.{length-put, put-stands, puts, puts-++, length-puts, laid-none, puts-laid}
+use Rattle.tree.specs.Machine.{Open, Shut, events, numbers, leaf-entry, node-entry, open-entry, enter, pen-at, Writer, writer, leafed, step, run}
+use Rattle.tree.specs.Writes.{Free, Standing, Ready, entries-at, Wrote}
 use Rattle.tree.proofs.Patch.{patched-later}
 use Rattle.tree.proofs.Runs.{run-node}
 
@@ -36,32 +36,31 @@ opened-free d x o h = record {
 shut-free : (d x : ℕ) (o : List ℕ) → Free d o → set (set o d x) d 0 ≡ o
 shut-free d x o h = set-set o d x 0 ∙ ap (set o d) (sym (h .clear d (omega arith))) ∙ set-getD o d 0
 
+-- A writer with that base, page, levels, depth and position.
+abbrev pub on : ℕ → Page → List ℕ → ℕ → ℕ → Writer
+on b p o d a = writer (p .table) o (pen-at b (p .n) d a)
+
+abbrev pub page-of : Writer → Page
+page-of w = page (w .table) (w .pen .n)
+
 -- A node begins where a level is left.
 open-step : (w : Writer) → w .pen .depth < open-levels
     → step Open w
-    ≡ writer
-    (written (w .table) (w .pen .n) (open-entry (w .pen .depth) (w .pen .pos)))
-    (set (w .levels) (w .pen .depth) (w .pen .n))
-    (pen-at (next (w .table) (w .pen .n)) (w .pen .depth + 1) (w .pen .pos))
+    ≡ on (w .pen .base) (enter (open-entry (w .pen .depth) (w .pen .pos)) (page-of w)) (set (w .levels) (w .pen .depth) (w .pen .n)) (w .pen .depth + 1) (w .pen .pos)
 unfolding step
 open-step w h = rw (lt-ltb (w .pen .depth) open-levels h)
 
 -- The writer once the entries of a row of trees are put into its table.
 abbrev pub after : Writer → Forest → Writer
-after w f =
-    let q = puts (page (w .table) (w .pen .n)) (entries-at w f) in
-    writer (q .table) (w .levels) (pen-at (q .n) (w .pen .depth) (w .pen .pos + size f))
+after w f = on (w .pen .base) (puts numbers (page-of w) (entries-at w f)) (w .levels) (w .pen .depth) (w .pen .pos + size f)
 
 -- That is where its events lead.
 abbrev Leads : Writer → Forest → Type 0
 Leads w f = run w (events f) ≡ after w f
 
-module _ (t o : List ℕ) (n d : ℕ) where
+module _ (b : ℕ) (p : Page) (o : List ℕ) (d : ℕ) where
   -- A leaf, and the rest of the row behind it.
-  abbrev with-leaf : Leaf → Writer
-  with-leaf x = writer (written t n (leaf-entry (x .kind) d (x .start) (stop x))) o (pen-at (next t n) d (stop x))
-
-  leaf-leads : (x : Leaf) (f : Forest) → Leads (with-leaf x) f → Leads (writer t o (pen-at n d (x .start))) (leaf x f)
+  leaf-leads : (x : Leaf) (f : Forest) → Leads (on b (enter (leaf-entry (x .kind) d (x .start) (stop x)) p) o d (stop x)) f → Leads (on b p o d (x .start)) (leaf x f)
   unfolding run events entries puts size step leafed
   leaf-leads x f ih = ih ∙ rw (add-assoc (x .start) (long x) (size f))
 
@@ -71,97 +70,89 @@ module _ (t o : List ℕ) (n d : ℕ) where
     end = a + size g
 
     abbrev opened : Writer
-    opened = writer (written t n (open-entry d a)) (set o d n) (pen-at (next t n) (d + 1) a)
+    opened = on b (enter (open-entry d a) p) (set o d (p .n)) (d + 1) a
 
     abbrev with-node : Page
-    with-node = puts (put (page t n) (node-entry k d a end)) (entries (d + 1) a g)
+    with-node = puts numbers (enter (node-entry k d a end) p) (entries (d + 1) a g)
 
-    abbrev shut : Writer
-    shut = writer (with-node .table) o (pen-at (with-node .n) d end)
-
-    node-after : (f : Forest) → after shut f ≡ after (writer t o (pen-at n d a)) (node k g f)
+    node-after : (f : Forest) → after (on b with-node o d end) f ≡ after (on b p o d a) (node k g f)
     unfolding entries puts size
-    node-after f = rw (puts-++ (put (page t n) (node-entry k d a end)) (entries (d + 1) a g) (entries d end f), add-assoc a (size g) (size f))
+    node-after f = rw (puts-++ numbers (enter (node-entry k d a end) p) (entries (d + 1) a g) (entries d end f), add-assoc a (size g) (size f))
 
-    length-node : length (with-node .table) ≡ length t
-    length-node = length-puts _ _ (entries (d + 1) a g) ∙ length-written t n (node-entry k d a end)
-
-    module _ (h : d < open-levels) (c : Free d o) where
-      shuts : length t ≤ far → step (Shut k) (after opened g) ≡ shut
+    module _ (h : d < open-levels) (c : Free d o) (s : length (p .table) ≤ far) where
+      shuts : step (Shut k) (after opened g) ≡ on b with-node o d end
       unfolding step
-      shuts b =
+      shuts =
           let m : d + 1 - 1 ≡ d = omega arith in
           let i : d < length o = omega (arith, c .long) in
-          rw (m, lt-ltb d open-levels h, getD-set-same o d n 0 i, shut-free d n o c)
-          (ap (λ q. writer (q .table) o (pen-at (q .n) d end)) (patched-later t n k d a end (entries (d + 1) a g) b))
+          rw (m, lt-ltb d open-levels h, getD-set-same o d (p .n) 0 i, shut-free d (p .n) o c)
+          (ap (λ q. on b q o d end) (patched-later (p .table) (p .n) k d a end (entries (d + 1) a g) s))
 
-      node-leads : (f : Forest) → length t ≤ far → Leads opened g → Leads shut f → Leads (writer t o (pen-at n d a)) (node k g f)
-      node-leads f b inner rest = run-node (writer t o (pen-at n d a)) k g f ∙ rw (open-step (writer t o (pen-at n d a)) h, inner, shuts b) (rest ∙ node-after f)
+      node-leads : (f : Forest) → Leads opened g → Leads (on b with-node o d end) f → Leads (on b p o d a) (node k g f)
+      node-leads f inner rest = run-node (on b p o d a) k g f ∙ rw (open-step (on b p o d a) h, inner, shuts) (rest ∙ node-after f)
 
 -- By the shape of the row; ls are the leaves behind it.
-leads : (f : Forest) (ls : List Leaf) (t o : List ℕ) (n d a : ℕ) → d + height f ≤ open-levels → Placed a (leaves f ++ ls) → Free d o → length t ≤ far
-    → Leads (writer t o (pen-at n d a)) f
+leads : (f : Forest) (ls : List Leaf) (b : ℕ) (p : Page) (o : List ℕ) (d a : ℕ) → d + height f ≤ open-levels → Placed a (leaves f ++ ls) → Free d o
+    → length (p .table) ≤ far → Leads (on b p o d a) f
 unfolding run events entries puts size height leaves Placed
-leads nil ls t o n d a low p c b = rw (add-zero a)
-leads (leaf x f) ls t o n d a low p c b =
+leads nil ls b p o d a low h c s = rw (add-zero a)
+leads (leaf x f) ls b p o d a low h c s =
     let e : Entry = leaf-entry (x .kind) d (x .start) (stop x) in
-    let q : Placed (stop x) (leaves f ++ ls) = rw (p .0) (p .2) in
+    let q : Placed (stop x) (leaves f ++ ls) = rw (h .0) (h .2) in
     subst
-    (λ y. Leads (writer t o (pen-at n d y)) (leaf x f))
-    (p .0)
-    (leaf-leads t o n d x f (leads f ls (written t n e) o (next t n) d (stop x) low q c (rw (length-written t n e) b)))
-leads (node k g f) ls t o n d a low p c b =
-    let q : Placed a (leaves g ++ (leaves f ++ ls)) = rw append-assoc at p in
-    let w : List ℕ = written t n (open-entry d a) in
-    node-leads
-    t
-    o
-    n
-    d
-    a
-    k
-    g
-    (omega arith)
-    c
-    f
-    b
-    (leads g (leaves f ++ ls) w (set o d n) (next t n) (d + 1) a (omega arith) q (opened-free d n o c) (rw (length-written t n (open-entry d a)) b))
-    (leads f ls _ o _ d (a + size g) (omega arith) (placed-past a g (leaves f ++ ls) q) c (rw (length-node t o n d a k g) b))
+    (λ y. Leads (on b p o d y) (leaf x f))
+    (h .0)
+    (leaf-leads b p o d x f (leads f ls b (enter e p) o d (stop x) low q c (rw (length-put (numbers e) (p .table) (p .n)) s)))
+leads (node k g f) ls b p o d a low h c s =
+    let q : Placed a (leaves g ++ (leaves f ++ ls)) = rw append-assoc at h in
+    let e : Entry = open-entry d a in
+    let m : length (with-node b p o d a k g .table) ≡ length (p .table)
+    = length-puts numbers _ (entries (d + 1) a g) ∙ length-put (numbers (node-entry k d a (a + size g))) (p .table) (p .n) in
+    node-leads b p o d a k g (omega arith) c s f
+    (leads g (leaves f ++ ls) b (enter e p) (set o d (p .n)) (d + 1) a (omega arith) q (opened-free d (p .n) o c) (rw (length-put (numbers e) (p .table) (p .n)) s))
+    (leads f ls b (with-node b p o d a k g) o d (a + size g) (omega arith) (placed-past a g (leaves f ++ ls) q) c (rw m s))
+
+-- The numbers of entries, row by row.
+all-numbers : (es : List Entry) → flatMap numbers es ≡ entry-numbers es
+unfolding flatMap entry-numbers
+all-numbers [] = refl
+all-numbers (e ∷ es) = ap (λ l. numbers e ++ l) (all-numbers es)
 
 -- The theorem.
 module _ (f : Forest) (w : Writer) (r : Ready w f) where
   abbrev es : List Entry
   es = entries-at w f
 
+  bound : length (w .table) ≤ far
+  bound = omega (arith, r .standing .short)
+
   pub writes-after : run w (events f) ≡ after w f
   writes-after =
-      let s : Standing w = r .standing in
-      let b : length (w .table) ≤ far = omega (arith, s .short) in
-      leads f [] (w .table) (w .levels) (w .pen .n) (w .pen .depth) (w .pen .pos) (r .low) (rw append-nil (r .placed)) (s .free) b
+      leads f [] (w .pen .base) (page-of w) (w .levels) (w .pen .depth) (w .pen .pos) (r .low) (rw append-nil (r .placed)) (r .standing .free) bound
 
-  after-whole : (h : end-at w f ≤ length (w .table))
-      → (after w f .table ≡ take (w .pen .n) (w .table) ++ entry-numbers es ++ drop (end-at w f) (w .table)) × (after w f .pen .n ≡ end-at w f)
-  after-whole h =
-      let e : puts (page (w .table) (w .pen .n)) es ≡ page (sets (w .table) (w .pen .n) (entry-numbers es)) (end-at w f) = puts-whole (w .table) (w .pen .n) es h in
+  pub writes-laid : Laid (entry-numbers es) (page-of w) (page-of (run w (events f)))
+  writes-laid =
+      rw (writes-after, ← all-numbers es) (puts-laid numbers es [] (page-of w) (page-of w) (laid-none (page-of w) (r .standing .stands)))
+
+  after-wrote : Laid (entry-numbers es) (page-of w) (page-of (after w f)) → Wrote f w (after w f)
+  after-wrote k =
       let l : length (entry-numbers es) ≡ Width.entry * length es = length-entries es in
-      (ap (λ q. q .table) e ∙ sets-eq (entry-numbers es) (w .table) (w .pen .n) (omega arith) ∙ rw l, ap (λ q. q .n) e)
-
-  after-wrote : Wrote f w (after w f)
-  after-wrote =
-      let s : Standing w = r .standing in
-      let l : length (after w f .table) ≡ length (w .table) = length-puts (w .table) (w .pen .n) es in
       record {
         levels-kept = refl;
+        base-kept = refl;
         depth-kept = refl;
         pos-is = refl;
-        long-kept = l;
-        standing = record { free = s .free; stands = puts-stands (w .table) (w .pen .n) es (s .stands); short = omega (arith, s .short) };
-        whole = after-whole;
-        lost = puts-lost (w .table) (w .pen .n) es (omega (arith, s .short)) (s .stands);
+        long-kept = k .long-kept;
+        standing = record { free = r .standing .free; stands = k .stands; short = omega (arith, r .standing .short, k .long-kept) };
+        whole = λ h. (
+          ap (λ (q : Page). q .table) (k .whole (rw l h)) ∙ sets-eq (entry-numbers es) (w .table) (w .pen .n) (rw l h) ∙ rw l,
+          ap (λ (q : Page). q .n) (k .whole (rw l h)) ∙ rw l,
+        );
+        lost = λ h. k .lost bound (rw l h);
       }
 
   pub writes : Wrote f w (run w (events f))
-  writes = rw writes-after after-wrote
+  writes = rw writes-after (after-wrote (rw writes-after at writes-laid))
 
 -- A node begins, and the writer goes on one level deeper.
 module _ (w : Writer) (h : w .pen .depth < open-levels) where
@@ -170,12 +161,11 @@ module _ (w : Writer) (h : w .pen .depth < open-levels) where
 
   pub open-standing : Standing w → Standing (step Open w)
   open-standing s =
-      let t = w .table in
-      let e = open-entry (w .pen .depth) (w .pen .pos) in
+      let e : List ℕ = numbers (open-entry (w .pen .depth) (w .pen .pos)) in
       rw
       (open-step w h)
       (record {
         free = opened-free (w .pen .depth) (w .pen .n) (w .levels) (s .free);
-        stands = next-stands t (w .pen .n) e;
-        short = omega (arith, s .short, length-written t (w .pen .n) e);
+        stands = put-stands e (w .table) (w .pen .n) (s .stands);
+        short = omega (arith, s .short, length-put e (w .table) (w .pen .n));
       })

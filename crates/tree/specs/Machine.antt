@@ -1,15 +1,14 @@
 -- The tree writer as a total machine over events: rowan's builder as `parser.rs` uses it, with entries in a lent table.
 use Prim.Native.Nat.{ℕ, _+_, _-_}
-use mathlib.Core.Path.{_≡_}
-use mathlib.Core.Bool.{Bool}
 use mathlib.Core.List.{List, [], _∷_, _++_}
-use lib.Dec.{leb, ltb}
-use lib.ListN.{length, getD, set}
-use lib.Seq.{sets}
+use lib.Dec.{ltb}
+use lib.ListN.{getD, set}
 use Rattle.definition.specs.Text.{if_then_else_}
 use Rattle.definition.specs.Tree.{Forest, nil, leaf, node, stop, Entry, Form, Width, entry-numbers}
 use Rattle.definition.specs.Tree as tree
 use Rattle.theorems.specs.Height.{open-levels}
+pub use Rattle.text.specs.Row.{far}
+use Rattle.text.specs.Row.{Page, page, fits, put}
 use Rattle.tree.specs.declared.Pen.{Pen}
 
 -- What a reader hands the writer: a node begins, the innermost open node ends and has this kind, a leaf with its kind, start and end.
@@ -26,13 +25,9 @@ events nil = []
 events (leaf t f) = leaf-event t ∷ events f
 events (node k c f) = Open ∷ (events c ++ (Shut k ∷ events f))
 
--- The place of the next entry once one did not fit: no table is that long.
-abbrev pub far : ℕ
-far = 18_446_744_073_709_551_615
-
--- Where the numbers of an entry stand, counted from its first, the form.
-abbrev pub Offset : record { kind : ℕ; level : ℕ; start : ℕ; end : ℕ }
-Offset = record { kind = 1; level = 2; start = 3; end = 4 }
+-- Where the kind and the end of an entry stand, counted from its first number, the form.
+abbrev pub Offset : record { kind : ℕ; end : ℕ }
+Offset = record { kind = 1; end = 4 }
 
 abbrev pub numbers : Entry → List ℕ  -- The numbers of one entry.
 numbers e = entry-numbers (e ∷ [])
@@ -51,26 +46,13 @@ open-kind = 0
 abbrev pub open-entry : ℕ → ℕ → Entry
 open-entry level start = node-entry open-kind level start start
 
--- Whether a table has room for an entry at n.
-unfoldable pub fits : List ℕ → ℕ → Bool
-fits t n = leb (n + Width.entry) (length t)
-
--- The table with an entry at n, if it has room,
-unfoldable pub written : List ℕ → ℕ → Entry → List ℕ
-written t n e = if fits t n then sets t n (numbers e) else t
-
--- and the place of the next entry.
-unfoldable pub next : List ℕ → ℕ → ℕ
-next t n = if fits t n then n + Width.entry else far
-
--- An entry took the table t and the place n to t′ and n′.
-pub record Puts (e : Entry) (t : List ℕ) (n : ℕ) (t′ : List ℕ) (n′ : ℕ) : Type 0 where
-  pub table-is : t′ ≡ written t n e
-  pub next-is : n′ ≡ next t n
+-- One entry more in a table.
+abbrev pub enter : Entry → Page → Page
+enter e p = put (numbers e) p
 
 -- The table with kind and end of the entry at n put in, if it had room.
 unfoldable pub patched : List ℕ → ℕ → ℕ → ℕ → List ℕ
-patched t n kind end = if fits t n then set (set t (n + Offset.kind) kind) (n + Offset.end) end else t
+patched t n kind end = if fits Width.entry t n then set (set t (n + Offset.kind) kind) (n + Offset.end) end else t
 
 -- The open levels hold the place of each open node's entry; a level that is not open holds 0.
 abbrev pub level-at : List ℕ → ℕ → ℕ
@@ -82,8 +64,8 @@ set-level levels d n = if ltb d open-levels then set levels d n else levels
 abbrev pub one-deeper : ℕ → ℕ
 one-deeper d = if ltb d open-levels then d + 1 else d
 
-abbrev pub pen-at : ℕ → ℕ → ℕ → Pen
-pen-at n depth pos = record { n = n; depth = depth; pos = pos }
+abbrev pub pen-at : ℕ → ℕ → ℕ → ℕ → Pen
+pen-at base n depth pos = record { base = base; n = n; depth = depth; pos = pos }
 
 -- A table, and the pen that writes into it.
 pub record Sheet : Type 0 where
@@ -109,7 +91,8 @@ with-levels o s = writer (s .table) o (s .pen)
 unfoldable pub leafed : ℕ → ℕ → ℕ → Sheet → Sheet
 leafed kind start end s =
     let p = s .pen in
-    sheet (written (s .table) (p .n) (leaf-entry kind (p .depth) start end)) (pen-at (next (s .table) (p .n)) (p .depth) end)
+    let q = enter (leaf-entry kind (p .depth) start end) (page (s .table) (p .n)) in
+    sheet (q .table) (pen-at (p .base) (q .n) (p .depth) end)
 
 unfoldable pub leafs : Sheet → List tree.Leaf → Sheet  -- A row of leaves.
 leafs s [] = s
@@ -119,14 +102,12 @@ leafs s (t ∷ ts) = leafs (leafed (t .kind) (t .start) (stop t) s) ts
 unfoldable pub step : Event → Writer → Writer
 step Open w =
     let p = w .pen in
-    writer
-    (written (w .table) (p .n) (open-entry (p .depth) (p .pos)))
-    (set-level (w .levels) (p .depth) (p .n))
-    (pen-at (next (w .table) (p .n)) (one-deeper (p .depth)) (p .pos))
+    let q = enter (open-entry (p .depth) (p .pos)) (page (w .table) (p .n)) in
+    writer (q .table) (set-level (w .levels) (p .depth) (p .n)) (pen-at (p .base) (q .n) (one-deeper (p .depth)) (p .pos))
 step (Shut k) w =
     let p = w .pen in
     let d = p .depth - 1 in
-    writer (patched (w .table) (level-at (w .levels) d) k (p .pos)) (set-level (w .levels) d 0) (pen-at (p .n) d (p .pos))
+    writer (patched (w .table) (level-at (w .levels) d) k (p .pos)) (set-level (w .levels) d 0) (pen-at (p .base) (p .n) d (p .pos))
 step (Leaf k a b) w = with-levels (w .levels) (leafed k a b (sheet (w .table) (w .pen)))
 
 -- A row of events.

@@ -6,17 +6,13 @@ use lib.ListN.{length, take, drop, getD}
 use Rattle.definition.specs.Tree.{Forest, leaves, size, Entry, Width, entries, entry-numbers}
 use Rattle.theorems.specs.Placed.{Placed}
 use Rattle.theorems.specs.Height.{height, open-levels}
+pub use Rattle.text.specs.Row.{Stands, within, past}
 use Rattle.tree.specs.Machine.{far, Writer}
 
 -- Levels of which none from d on is open.
 pub record Free (d : ℕ) (levels : List ℕ) : Type 0 where
   pub long : length levels ≡ open-levels
   pub clear : (i : ℕ) → d ≤ i → getD levels i 0 ≡ 0
-
--- The place of the next entry is in the table or at its end, or it is the far one.
-pub data Stands (t : List ℕ) (n : ℕ) : Type 0 where
-  within : n ≤ length t → Stands t n
-  past : n ≡ far → Stands t n
 
 -- A writer at work: no level from its depth on is open, its place is one of the table, and the table ends before the far place.
 pub record Standing (w : Writer) : Type 0 where
@@ -40,6 +36,7 @@ end-at w f = w .pen .n + Width.entry * length (entries-at w f)
 -- The events of f took w to w′.
 pub record Wrote (f : Forest) (w w′ : Writer) : Type 0 where
   pub levels-kept : w′ .levels ≡ w .levels
+  pub base-kept : w′ .pen .base ≡ w .pen .base
   pub depth-kept : w′ .pen .depth ≡ w .pen .depth
   pub pos-is : w′ .pen .pos ≡ w .pen .pos + size f
   pub long-kept : length (w′ .table) ≡ length (w .table)

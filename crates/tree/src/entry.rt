@@ -1,7 +1,9 @@
-// The entries of a table: written as far as it goes.
+// The entries of a table.
+use text::row::put_row;
 use text::table;
 ghost use mathlib.Core.Path.{_≡_};
-ghost use Rattle.tree.specs.Machine.{Puts, patched};
+ghost use Rattle.text.specs.Row.{page};
+ghost use Rattle.tree.specs.Machine.{enter, patched};
 
 // The forms of an entry.
 pub const LEAF: u32 = 0;
@@ -11,19 +13,12 @@ pub const NODE: u32 = 1;
 // The kind of a node that is still open.
 pub const OPEN_KIND: u32 = 0;
 
-// How many numbers an entry has, and where each stands behind the first, its form.
+// How many numbers an entry has, and where its kind and its end stand behind the first, its form.
 const WIDTH: usize = 5;
 
 const KIND: usize = 1;
 
-const LEVEL: usize = 2;
-
-const START: usize = 3;
-
 const END: usize = 4;
-
-// The place of the next entry once one did not fit.
-pub const FAR: usize = 18_446_744_073_709_551_615;
 
 // Writes an entry at n, if it has room, and gives the place of the next.
 pub fn put(
@@ -35,17 +30,9 @@ pub fn put(
     start: u32,
     end: u32,
 ) -> usize
-    ensures { λ r. ⌜ Puts (record { form = form; kind = kind; level = level; start = start; end = end }) (now (table .entry)) n (now (table .exit)) r ⌝ }
+    ensures { λ r. ⌜ page (now (table .exit)) r ≡ enter (record { form = form; kind = kind; level = level; start = start; end = end }) (page (now (table .entry)) n) ⌝ }
 {
-    if WIDTH <= table::rest(table, n) {
-        table[n] = form;
-        table[n + KIND] = kind;
-        table[n + LEVEL] = level;
-        table[n + START] = start;
-        table[n + END] = end;
-        return n + WIDTH;
-    }
-    FAR
+    put_row(table, n, &[form, kind, level, start, end])
 }
 
 // Puts the kind and the end of the entry at n in, if it had room.

@@ -8,8 +8,10 @@ ghost use mathlib.Core.Path.{_≡_};
 ghost use Rattle.tree.specs.Machine.{sheet, leafed, writer, pen-at, step, Open, Shut};
 ghost use Rattle.tree.specs.Tail.{at-front};
 
-// Where the writer stands: the place of the next entry in the table, how many nodes are open, and the end of the last leaf.
+// Where the writer stands: how many numbers of the whole table lie before the part that it writes into, the place of the next entry in that
+// part, how many nodes are open, and the end of the last leaf.
 pub struct Pen {
+    pub base: usize,
     pub n: usize,
     pub depth: u32,
     pub pos: u32,
@@ -18,20 +20,22 @@ pub struct Pen {
 impl Pen {
     // At the front of a table; no node is open.
     pub fn new() -> Self
-        ensures { λ r. ⌜ r ≡ pen-at 0 0 0 ⌝ }
+        ensures { λ r. ⌜ r ≡ pen-at 0 0 0 0 ⌝ }
     {
         Self {
+            base: 0,
             n: 0,
             depth: 0,
             pos: 0,
         }
     }
 
-    // The same at the front of another table.
-    pub fn at_front(self) -> Self
-        ensures { λ r. ⌜ r ≡ at-front self ⌝ }
+    // The same at the front of the tail that begins at a.
+    pub fn at_front(self, a: usize) -> Self
+        ensures { λ r. ⌜ r ≡ at-front a self ⌝ }
     {
         Self {
+            base: tail::base(self.base, a),
             n: 0,
             depth: self.depth,
             pos: self.pos,
@@ -55,6 +59,7 @@ pub fn start_node(table: &mut [u32], levels: &mut [usize; OPEN_LEVELS], pen: Pen
     );
     level::put(levels, pen.depth, pen.n);
     Pen {
+        base: pen.base,
         n,
         depth,
         pos: pen.pos,
@@ -70,6 +75,7 @@ pub fn finish_node(table: &mut [u32], levels: &mut [usize; OPEN_LEVELS], pen: Pe
     entry::patch(table, n, kind, pen.pos);
     level::put(levels, depth, 0);
     Pen {
+        base: pen.base,
         n: pen.n,
         depth,
         pos: pen.pos,
@@ -82,6 +88,7 @@ pub fn leaf(table: &mut [u32], pen: Pen, kind: u32, start: u32, end: u32) -> Pen
 {
     let n = entry::put(table, pen.n, entry::LEAF, kind, pen.depth, start, end);
     Pen {
+        base: pen.base,
         n,
         depth: pen.depth,
         pos: end,

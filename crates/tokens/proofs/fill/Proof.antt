@@ -1,8 +1,8 @@
--- `fill` writes the numbers of the tokens as far as the table goes, and counts them.
+-- `fill` lays the numbers of the tokens.
 use Prim.Native.Nat.{_-_}
 use lib.ListN.{length}
 use Rattle.text.proofs.Cases.{cases}
-use Rattle.tokens.proofs.Listing.{Listing, start, offset-fits, place-fits, number-fits, nearer, another, kept, done}
+use Rattle.tokens.proofs.Listing.{Listing, start, offset-fits, place-fits, nearer, another, kept, done}
 use Rattle.tokens.proofs.fill.Statement.{statement}
 use Rattle.tokens.proofs.fill.Tie as tie
 
@@ -24,8 +24,8 @@ fill-spec = tie.close (tie.spec
     (λ c κs. search cases)
     (λ c. search (place-fits, cases))
     (λ c. search (offset-fits, cases))
+    (λ c. search cases)
     (λ c κs. search cases)
-    (λ c. search (number-fits, cases))
     (λ c. search (nearer, cases))
     (λ c. search (another, cases))
     (λ c. search cases)

@@ -1,6 +1,5 @@
 -- `resolve` fills in the lines and the columns of errors.
 use Prim.Native.Nat.{_-_}
-use native.Mathlib.Omega.{arith}
 use lib.ListN.{take}
 use Rattle.text.proofs.Cases.{cases}
 use Rattle.error.proofs.Resolving.{Resolving, begin, full, over, one-more}

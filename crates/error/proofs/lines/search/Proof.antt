@@ -1,6 +1,5 @@
 -- `search` finds the line of an offset in a line table.
 use Prim.Native.Nat.{_-_}
-use native.Mathlib.Omega.{arith}
 use Rattle.text.proofs.Cases.{cases}
 use Rattle.error.proofs.Searching.{Searching, start, middle-in, upper, lower, upper-nearer, lower-nearer, done}
 use Rattle.error.proofs.lines.search.Statement.{statement}

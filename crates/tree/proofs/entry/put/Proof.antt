@@ -1,32 +1,9 @@
--- `put` writes an entry that has room.
-use native.Mathlib.Omega.{arith}
-use lib.ListN.{length-set}
+-- `put` writes the numbers of an entry.
+use Rattle.definition.specs.Tree.{entry-numbers}
 use Rattle.text.proofs.Cases.{cases}
-use Rattle.tree.proofs.Steps.{put-in, put-out}
 use Rattle.tree.proofs.entry.put.Statement.{statement}
 use Rattle.tree.proofs.entry.put.Tie as tie
 
 pub put-spec : {M : Type 1} → statement M
-put-spec =
-    tie.close
-    (tie.spec
-    (λ c κs. search cases)
-    (λ c. search cases)
-    (λ c. search cases)
-    (λ c. search cases)
-    (λ c. search cases)
-    (λ c. simp length-set (omega arith))
-    (λ c. search cases)
-    (λ c. search cases)
-    (λ c. simp length-set (omega arith))
-    (λ c. search cases)
-    (λ c. search cases)
-    (λ c. simp length-set (omega arith))
-    (λ c. search cases)
-    (λ c. search cases)
-    (λ c. simp length-set (omega arith))
-    (λ c. search cases)
-    (λ c. search cases)
-    (λ c. search (put-in, cases))
-    (λ c. search cases)
-    (λ c. search (put-out, cases)))
+unfolding entry-numbers
+put-spec = tie.close (tie.spec (λ c. search cases) (λ c κs. search cases) (λ c. search cases) (λ c. search cases))
