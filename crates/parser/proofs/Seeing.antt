@@ -1,8 +1,8 @@
 -- What is seen is what is left where the lexer stands.
 use Prim.Native.Nat.{ℕ, _≤_}
-use mathlib.Core.Path.{_≡_, refl, sym, ap, _∙_}
+use mathlib.Core.Path.{_≡_, refl, sym, _∙_}
 use mathlib.Core.Bool.{Bool, true, false}
-use mathlib.Core.List.{List, [], _∷_}
+use mathlib.Core.List.{List}
 use borrow.Author.Tests.{ne-eqb, eqb-false}
 use native.Mathlib.Omega.{arith}
 use mir.Val.{Fits}
@@ -12,7 +12,7 @@ use lib.ListN.{length}
 use Rattle.definition.specs.Text.{if_then_else_, Kind}
 use Rattle.definition.specs.Calls.{longest-source}
 use Rattle.theorems.specs.Step.{Stepped}
-use Rattle.theorems.specs.Left.{left, leaf-kind}
+use Rattle.theorems.specs.Left.{leaf-kind}
 use Rattle.theorems.proofs.Left.{left-step, left-over, stop-between}
 use Rattle.glue.specs.declared.Step.{Step}
 use Rattle.glue.specs.declared.Next.{Next}
@@ -28,6 +28,19 @@ some-leaf k h = go (eqb k Kind.LINECONT) refl
     go true e z = absurd (omega arith)
     go false e z = h z
 
+-- A step of the lexer is seen as the leaf of its token.
+pub seen-step : (src : List ℕ) (at : ℕ) (f : Bool) (k e : ℕ) (g : Bool) → Stepped src at f k e g → (j : ℕ) → j ≡ leaf-kind k
+    → Sees src at f (record { kind = j; start = at; end = e; angle = g })
+unfolding rest-of Held
+seen-step src at f k e g u j h =
+    let z : eqb j 0 ≡ false = ne-eqb j 0 (λ w. some-leaf k (u .some-kind) (sym h ∙ w)) in
+    record {
+      rest = rw (z, h) (sym (left-step src at f k e g u));
+      held = λ n. (stop-between src at f k e g u, u .forward);
+      starts = refl;
+      over = λ w. absurd (eqb-false j 0 z w);
+    }
+
 module _ (src : List ℕ) (at : ℕ) (angle : Bool) (x : Next) (y : Nexts src (record { input = record { at = at; angle = angle } }) x) where
   module _ (r : Step) (q : x ≡ Token r) where
     stepped : Stepped src at angle (r .kind) (r .next .input .at) (r .next .input .angle)
@@ -38,15 +51,7 @@ module _ (src : List ℕ) (at : ℕ) (angle : Bool) (x : Next) (y : Nexts src (r
     end-fits h = omega (arith, stepped .within)
 
     pub seen-token : (k : ℕ) → k ≡ leaf-kind (r .kind) → Sees src at angle (record { kind = k; start = at; end = r .next .input .at; angle = r .next .input .angle })
-    unfolding rest-of Held
-    seen-token k e =
-        let z : eqb k 0 ≡ false = ne-eqb k 0 (λ w. some-leaf (r .kind) (stepped .some-kind) (sym e ∙ w)) in
-        record {
-          rest = rw (z, e) (sym (left-step src _ _ _ _ _ stepped));
-          held = λ h. (stop-between src _ _ _ _ _ stepped, stepped .forward);
-          starts = refl;
-          over = λ w. absurd (eqb-false k 0 z w);
-        }
+    seen-token k e = seen-step src at angle _ _ _ stepped k e
 
   pub seen-end : x ≡ End → Sees src at angle (record { kind = 0; start = at; end = at; angle = angle })
   unfolding Nexts rest-of Held

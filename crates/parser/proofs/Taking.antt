@@ -1,31 +1,45 @@
--- Taking one leaf, and taking trivia.
-use Prim.Native.Nat.{ℕ, suc, _≤_, _<_}
+-- Taking one leaf, and writing the leaves that pass a test one after another.
+use Prim.Native.Nat.{ℕ, _<_}
 use native.Mathlib.Omega.{arith}
 use mathlib.Core.Path.{_≡_, refl, sym, ap, _∙_}
-use mathlib.Core.Bool.{Bool, true, false, _||_, false≢true}
-use mathlib.Core.List.{List, [], _∷_, _++_}
+use mathlib.Core.Bool.{Bool, true, false, false≢true}
+use mathlib.Core.List.{List, [], _∷_}
 use borrow.Author.Tests.{eq-eqb, ne-eqb}
 use lib.Dec.{eqb}
 use lib.ListN.{length}
-use Rattle.definition.specs.Text.{if_then_else_, Kind}
-use Rattle.definition.specs.Tree.{Leaf, leaves, row, nil, leaf, stop}
-use Rattle.definition.specs.Parser.{Reader, trivia, while, after, peek, bump, skip, skip-trivia}
+use Rattle.definition.specs.Text.{if_then_else_}
+use Rattle.definition.specs.Tree.{Leaf, leaves}
+use Rattle.definition.specs.Parser.{trivia, while, after, peek, bump, skip, skip-trivia}
 use Rattle.theorems.specs.Left.{left}
-use Rattle.theorems.proofs.Tiling.Leaves.{leaves-row, while-stop, after-stop}
-use Rattle.tree.specs.Machine.{Sheet, sheet, leafed, leafs}
+use Rattle.theorems.proofs.Tiling.Leaves.{leaves-row, while-yes, while-stop, after-yes, after-stop}
+use Rattle.tree.specs.Machine.{sheet, leafed, leafs}
 use Rattle.tree.specs.declared.Pen.{Pen}
 use Rattle.parser.specs.declared.Seen.{Seen}
 use Rattle.parser.specs.declared.Run.{Run}
-use Rattle.parser.specs.Rest.{leaf-seen, rest-of, Held, Sees, trivial, Takes}
+use Rattle.parser.specs.Rest.{run-of, leaf-seen, rest-of, Held, Sees, trivial, Takes}
 
-module _ (src : List ℕ) (s : Seen) where
-  pub none-seen : s .kind ≡ 0 → rest-of src s ≡ []
+module _ (src : List ℕ) (x : Seen) where
+  pub none-seen : x .kind ≡ 0 → rest-of src x ≡ []
   unfolding rest-of
-  none-seen e = rw (eq-eqb (s .kind) 0 e)
+  none-seen e = rw (eq-eqb (x .kind) 0 e)
 
-  pub one-seen : (s .kind ≡ 0 → ⊥) → rest-of src s ≡ leaf-seen src s ∷ left src (s .end) (s .angle)
+  pub one-seen : (x .kind ≡ 0 → ⊥) → rest-of src x ≡ leaf-seen src x ∷ left src (x .end) (x .angle)
   unfolding rest-of
-  one-seen h = rw (ne-eqb (s .kind) 0 h)
+  one-seen h = rw (ne-eqb (x .kind) 0 h)
+
+  -- What is seen fails a test, or is the end.
+  pub not-peeked : (p : Leaf → Bool) → p (leaf-seen src x) ≡ false → peek p (rest-of src x) ≡ false
+  unfolding rest-of peek
+  not-peeked p e = go (eqb (x .kind) 0)
+    where
+      go : (z : Bool) → peek p (if z then [] else leaf-seen src x ∷ left src (x .end) (x .angle)) ≡ false
+      go true = refl
+      go false = e
+
+-- The kind of a leaf, as a number of a table, is written.
+pub leaf-written : (t t′ : List ℕ) (p p′ : Pen) (x : Seen) (w : ℕ) → w ≡ x .kind → sheet t′ p′ ≡ leafed w (x .start) (x .end) (sheet t p)
+    → sheet t′ p′ ≡ leafed (x .kind) (x .start) (x .end) (sheet t p)
+leaf-written t t′ p p′ x w e q = q ∙ ap (λ k. leafed k (x .start) (x .end) (sheet t p)) e
 
 -- Nothing is taken at the end.
 pub bump-none : (src t : List ℕ) (r : Run) → Held src (r .seen) → r .seen .kind ≡ 0 → Takes src bump t r t r
@@ -34,64 +48,84 @@ bump-none src t r h e = let q : rest-of src (r .seen) ≡ [] = none-seen src (r 
     record { tree = rw q refl; rest = rw q refl; held = h }
 
 -- One leaf is taken.
-pub bump-one : (src t t′ : List ℕ) (r : Run) (p : Pen) (n : Seen) (w : ℕ) → Held src (r .seen) → (r .seen .kind ≡ 0 → ⊥) → w ≡ r .seen .kind
-    → sheet t′ p ≡ leafed w (r .seen .start) (r .seen .end) (sheet t (r .pen)) → Sees src (r .seen .end) (r .seen .angle) n
-    → Takes src bump t r t′ (record { seen = n; pen = p })
+pub bump-one : (src t t′ : List ℕ) (r r′ : Run) (p : Pen) (n : Seen) → Held src (r .seen) → (r .seen .kind ≡ 0 → ⊥)
+    → sheet t′ p ≡ leafed (r .seen .kind) (r .seen .start) (r .seen .end) (sheet t (r .pen)) → Sees src (r .seen .end) (r .seen .angle) n → r′ ≡ run-of n p → Takes src bump t r t′ r′
 unfolding bump leaves leafs Held
-bump-one src t t′ r p n w h z e q k =
+bump-one src t t′ r r′ p n h z q k e =
     let o : rest-of src (r .seen) ≡ leaf-seen src (r .seen) ∷ left src (r .seen .end) (r .seen .angle) = one-seen src (r .seen) z in
-    record { tree = rw (o, h z .0) (q ∙ ap (λ x. leafed x (r .seen .start) (r .seen .end) (sheet t (r .pen))) e); rest = rw o (k .rest); held = k .held }
+    rw e (record { tree = rw (o, h z .0) q; rest = rw o (k .rest); held = k .held })
 
--- The trivia that is left where the loop stands is the rest of the trivia where it began.
-pub record Skipping (src t₀ : List ℕ) (r₀ : Run) (t : List ℕ) (r : Run) : Type 0 where
-  pub tree : leafs (sheet t (r .pen)) (while trivia (rest-of src (r .seen))) ≡ leafs (sheet t₀ (r₀ .pen)) (while trivia (rest-of src (r₀ .seen)))
-  pub rest : after trivia (rest-of src (r .seen)) ≡ after trivia (rest-of src (r₀ .seen))
-  pub held : Held src (r .seen)
+-- A loop that writes the leaves which pass a test: those still to be written where it stands, at x, are the rest of those where it began, at x₀.
+pub record Writing (src : List ℕ) (q : Leaf → Bool) (t₀ : List ℕ) (p₀ : Pen) (x₀ : Seen) (t : List ℕ) (p : Pen) (x : Seen) : Type 0 where
+  pub tree : leafs (sheet t p) (while q (rest-of src x)) ≡ leafs (sheet t₀ p₀) (while q (rest-of src x₀))
+  pub rest : after q (rest-of src x) ≡ after q (rest-of src x₀)
+  pub held : Held src x
   pub long : length t ≡ length t₀
 
-pub skip-start : (src t : List ℕ) (r : Run) → Held src (r .seen) → Skipping src t r t r
-skip-start src t r h = record { tree = refl; rest = refl; held = h; long = refl }
+pub write-start : (src : List ℕ) (q : Leaf → Bool) (t : List ℕ) (p : Pen) (x : Seen) → Held src x → Writing src q t p x t p x
+write-start src q t p x h = record { tree = refl; rest = refl; held = h; long = refl }
 
-some-trivia : (k : ℕ) → trivial k ≡ true → k ≡ 0 → ⊥
+module _ {src : List ℕ} {q : Leaf → Bool} {t₀ : List ℕ} {p₀ : Pen} {x₀ : Seen} {t : List ℕ} {p : Pen} {x : Seen} (k : Writing src q t₀ p₀ x₀ t p x) where
+  pub write-long : length t ≡ length t₀
+  write-long = k .long
+
+  -- One leaf more.
+  module _ (z : x .kind ≡ 0 → ⊥) (e : q (leaf-seen src x) ≡ true) (t′ : List ℕ) (p′ : Pen) (w : sheet t′ p′ ≡ leafed (x .kind) (x .start) (x .end) (sheet t p)) where
+    abbrev behind : List Leaf
+    behind = left src (x .end) (x .angle)
+
+    pub tree-behind : leafs (sheet t′ p′) (while q behind) ≡ leafs (sheet t₀ p₀) (while q (rest-of src x₀))
+    unfolding leafs Held
+    tree-behind =
+        ap (λ v. leafs v (while q behind)) (w ∙ ap (λ n. leafed (x .kind) (x .start) n (sheet t p)) (sym (k .held z .0)))
+        ∙ rw (one-seen src x z, while-yes q (leaf-seen src x) behind e) at (k .tree)
+
+    pub write-more : (n : Seen) → rest-of src n ≡ behind → Held src n → length t′ ≡ length t → Writing src q t₀ p₀ x₀ t′ p′ n
+    write-more n r h l = record {
+      tree = rw r tree-behind;
+      rest = rw r (rw (one-seen src x z, after-yes q (leaf-seen src x) behind e) at (k .rest));
+      held = h;
+      long = l ∙ k .long;
+    }
+
+  -- No leaf more.
+  module _ (d : peek q (rest-of src x) ≡ false) where
+    pub tree-done : sheet t p ≡ leafs (sheet t₀ p₀) (while q (rest-of src x₀))
+    unfolding leafs
+    tree-done = rw (while-stop q (rest-of src x) d) at (k .tree)
+
+    rest-done : rest-of src x ≡ after q (rest-of src x₀)
+    rest-done = rw (after-stop q (rest-of src x) d) at (k .rest)
+
+-- Trivia is no end.
+pub some-trivia : (k : ℕ) → trivial k ≡ true → k ≡ 0 → ⊥
 some-trivia k e z = let q : trivial 0 ≡ true = rw z at e in false≢true q
 
-module _ (src t₀ t : List ℕ) (r₀ r : Run) (k : Skipping src t₀ r₀ t r) where
-  module _ (t′ : List ℕ) (r′ : Run) (x : Takes src bump t r t′ r′) (b : Bool) (d : b ≡ trivial (r .seen .kind)) (e : b ≡ true) where
-    seen : rest-of src (r .seen) ≡ leaf-seen src (r .seen) ∷ left src (r .seen .end) (r .seen .angle)
-    seen = one-seen src (r .seen) (some-trivia (r .seen .kind) (sym d ∙ e))
+-- Taking trivia leaf by leaf.
+module _ (src t₀ t : List ℕ) (r₀ r : Run) (k : Writing src trivia t₀ (r₀ .pen) (r₀ .seen) t (r .pen) (r .seen)) (b : Bool) (d : b ≡ trivial (r .seen .kind)) where
+  module _ (t′ : List ℕ) (r′ : Run) (x : Takes src bump t r t′ r′) (e : b ≡ true) where
+    some : r .seen .kind ≡ 0 → ⊥
+    some = some-trivia (r .seen .kind) (sym d ∙ e)
 
-    behind : rest-of src (r′ .seen) ≡ left src (r .seen .end) (r .seen .angle)
+    rest-behind : rest-of src (r′ .seen) ≡ left src (r .seen .end) (r .seen .angle)
     unfolding bump
-    behind = x .rest ∙ ap (λ l. bump l .rest) seen
+    rest-behind = x .rest ∙ ap (λ l. bump l .rest) (one-seen src (r .seen) some)
 
-    pub skip-more : length t′ ≡ length t → Skipping src t₀ r₀ t′ r′
-    unfolding bump leaves leafs while after
+    pub skip-more : length t′ ≡ length t → Writing src trivia t₀ (r₀ .pen) (r₀ .seen) t′ (r′ .pen) (r′ .seen)
+    unfolding bump leaves leafs Held
     skip-more l =
-        let f : trivial (r .seen .kind) ≡ true = sym d ∙ e in
-        let s : sheet t′ (r′ .pen) ≡ leafed (r .seen .kind) (r .seen .start) (stop (leaf-seen src (r .seen))) (sheet t (r .pen))
-        = x .tree ∙ ap (λ l. leafs (sheet t (r .pen)) (leaves (bump l .tree))) seen in
-        let u = rw (f, while) at (rw seen at (k .tree)) in
-        let v = rw (f, after) at (rw seen at (k .rest)) in
-        record { tree = rw (behind, s) u; rest = rw behind v; held = x .held; long = l ∙ k .long }
+        write-more k some (sym d ∙ e) t′ (r′ .pen)
+        (rw (one-seen src (r .seen) some, k .held some .0) at (x .tree)) (r′ .seen) rest-behind (x .held) l
 
     pub skip-fewer : length (rest-of src (r′ .seen)) < length (rest-of src (r .seen))
-    skip-fewer = rw (behind, seen) (omega arith)
+    skip-fewer = rw (rest-behind, one-seen src (r .seen) some) (omega arith)
 
-  pub skip-long : length t ≡ length t₀
-  skip-long = k .long
-
-  no-trivia : trivial (r .seen .kind) ≡ false → peek trivia (rest-of src (r .seen)) ≡ false
-  unfolding rest-of peek
-  no-trivia e = go (eqb (r .seen .kind) 0)
-    where
-      go : (z : Bool) → peek trivia (if z then [] else leaf-seen src (r .seen) ∷ left src (r .seen .end) (r .seen .angle)) ≡ false
-      go true = refl
-      go false = e
-
-  pub skip-done : (b : Bool) → b ≡ trivial (r .seen .kind) → b ≡ false → Takes src skip-trivia t₀ r₀ t r
-  unfolding skip-trivia skip leafs
-  skip-done b d e =
-      let p : peek trivia (rest-of src (r .seen)) ≡ false = no-trivia (sym d ∙ e) in
-      let w : while trivia (rest-of src (r .seen)) ≡ [] = while-stop trivia (rest-of src (r .seen)) p in
-      let a : after trivia (rest-of src (r .seen)) ≡ rest-of src (r .seen) = after-stop trivia (rest-of src (r .seen)) p in
-      record { tree = rw leaves-row (rw w at (k .tree)); rest = sym a ∙ k .rest; held = k .held }
+  pub skip-done : b ≡ false → Takes src skip-trivia t₀ r₀ t r
+  unfolding skip-trivia skip
+  skip-done e =
+      let p : peek trivia (rest-of src (r .seen)) ≡ false = not-peeked src (r .seen) trivia (sym d ∙ e) in
+      record {
+        tree = rw leaves-row (tree-done k p);
+        rest = rest-done k p;
+        held = k .held;
+      }

@@ -13,8 +13,13 @@ use Rattle.definition.specs.Calls.{longest-source}
 use Rattle.theorems.specs.Left.{left}
 use Rattle.pre.specs.Table.{class-table}
 use Rattle.tree.specs.Machine.{sheet, leafs}
+use Rattle.tree.specs.declared.Pen.{Pen}
 use Rattle.parser.specs.declared.Seen.{Seen}
 use Rattle.parser.specs.declared.Run.{Run}
+
+-- A leaf that is seen, with a pen.
+abbrev pub run-of : Seen → Pen → Run
+run-of x p = record { seen = x; pen = p }
 
 -- The leaf that is seen,
 abbrev pub leaf-seen : List ℕ → Seen → Leaf

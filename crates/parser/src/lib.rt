@@ -1,4 +1,7 @@
 // The parser's hold on its leaves: the one that is seen, taking it, and passing over trivia (`parser.rs`).
+pub mod text_lines;
+pub mod trivia;
+
 use glue::Lexer;
 use glue::Next;
 use pre::PreLexer;
@@ -11,12 +14,14 @@ ghost use Rattle.definition.specs.Calls.{longest-source};
 ghost use Rattle.definition.specs.Parser as reader;
 ghost use Rattle.theorems.specs.Left.{leaf-kind};
 ghost use Rattle.pre.specs.Table.{class-table};
-ghost use Rattle.parser.specs.Rest.{Sees, trivial, Reading, Takes};
+ghost use Rattle.tree.specs.Machine.{sheet, leafed};
+ghost use Rattle.parser.specs.Rest.{run-of, Sees, trivial, Reading, Takes};
 
-// The leaf that is seen: its kind, 0 at the end of the source, its range, and whether an angle string is expected behind it.
+// The leaf that is seen: its kind, 0 at the end of the source, its range, and whether an angle string is expected behind it. Start and end are not
+// neighbours: a copy of both at once would wait until each, just written, has reached memory.
 pub struct Seen {
-    pub kind: u8,
     pub start: u32,
+    pub kind: u8,
     pub end: u32,
     pub angle: bool,
 }
@@ -25,6 +30,38 @@ pub struct Seen {
 pub struct Run {
     pub seen: Seen,
     pub pen: Pen,
+}
+
+// The same leaf, number by number: a copy of the whole would wait until its parts, just written, have reached memory.
+fn same(x: Seen) -> Seen
+    ensures { λ r. ⌜ r ≡ x ⌝ }
+{
+    Seen {
+        start: x.start,
+        kind: x.kind,
+        end: x.end,
+        angle: x.angle,
+    }
+}
+
+// The same pen, number by number.
+fn same_pen(p: Pen) -> Pen
+    ensures { λ r. ⌜ r ≡ p ⌝ }
+{
+    Pen {
+        n: p.n,
+        depth: p.depth,
+        pos: p.pos,
+    }
+}
+
+// A run of these two, number by number.
+pub fn run_of(x: Seen, p: Pen) -> Run
+    ensures { λ r. ⌜ r ≡ run-of x p ⌝ }
+{
+    let seen = same(x);
+    let pen = same_pen(p);
+    Run { seen, pen }
 }
 
 // The kind of a token as a leaf: a continuation becomes a WS leaf.
@@ -76,6 +113,13 @@ fn wide(kind: u8) -> u32
     kind as u32
 }
 
+// Writes a leaf that is seen.
+pub fn leaf(table: &mut [u32], pen: Pen, x: Seen) -> Pen
+    ensures { λ r. ⌜ sheet (now (table .exit)) r ≡ leafed (x .kind) (x .start) (x .end) (sheet (now (table .entry)) pen) ⌝ }
+{
+    tree::leaf(table, pen, wide(x.kind), x.start, x.end)
+}
+
 // Takes the leaf that is seen, if there is one, and sees the next.
 pub fn bump(src: &[u8], classes: &[u8; 256], table: &mut [u32], run: Run) -> Run
     requires { ⌜ Reading (now src) (now classes) (run .seen) ⌝ }
@@ -85,9 +129,8 @@ pub fn bump(src: &[u8], classes: &[u8; 256], table: &mut [u32], run: Run) -> Run
     if seen.kind == 0 {
         return run;
     }
-    let pen = tree::leaf(table, run.pen, wide(seen.kind), seen.start, seen.end);
-    let next = see(src, classes, seen.end, seen.angle);
-    Run { seen: next, pen }
+    let pen = leaf(table, run.pen, seen);
+    run_of(see(src, classes, seen.end, seen.angle), pen)
 }
 
 // Whether a kind is that of trivia.

@@ -1,11 +1,14 @@
 pub mod Chars
+pub mod Firsts
 pub mod Glues
 pub mod Gluing
 pub mod Lines
+pub mod Open
 pub mod PreAt
 pub mod Runs
 pub mod Sorts
 pub mod Step
+pub mod Texts
 pub mod Tokens
 pub mod Unescapes
 pub mod Walk

@@ -4,10 +4,10 @@ use mathlib.Core.Path.{_≡_, ap, sym, _∙_}
 use mathlib.Core.List.{List}
 use native.Mathlib.Omega.{arith}
 use lib.ListN.{length, set}
-use Rattle.definition.specs.Tree.{Width}
+use Rattle.definition.specs.Tree.{Width, leaf-entry}
 use Rattle.text.specs.Row.{Page, page}
 use Rattle.tree.specs.declared.Pen.{Pen}
-use Rattle.tree.specs.Machine.{Open, Shut, Offset, leaf-entry, open-entry, enter, patched, level-at, set-level, one-deeper, pen-at, sheet, writer, leafed, step}
+use Rattle.tree.specs.Machine.{Open, Shut, Offset, open-entry, enter, patched, level-at, set-level, one-deeper, pen-at, sheet, writer, leafed, step}
 use Rattle.tree.specs.Tail.{tail-base, behind, at-front, rejoined}
 use Rattle.tree.proofs.Patch.{patched-in, patched-out}
 

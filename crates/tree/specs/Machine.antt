@@ -4,7 +4,7 @@ use mathlib.Core.List.{List, [], _∷_, _++_}
 use lib.Dec.{ltb}
 use lib.ListN.{getD, set}
 use Rattle.definition.specs.Text.{if_then_else_}
-use Rattle.definition.specs.Tree.{Forest, nil, leaf, node, stop, Entry, Form, Width, entry-numbers}
+use Rattle.definition.specs.Tree.{Forest, nil, leaf, node, stop, Entry, Width, entry-numbers, leaf-entry, node-entry}
 use Rattle.definition.specs.Tree as tree
 use Rattle.theorems.specs.Height.{open-levels}
 pub use Rattle.text.specs.Row.{far}
@@ -33,12 +33,6 @@ abbrev pub numbers : Entry → List ℕ  -- The numbers of one entry.
 numbers e = entry-numbers (e ∷ [])
 
 -- The entries that the writer makes.
-abbrev pub leaf-entry : ℕ → ℕ → ℕ → ℕ → Entry
-leaf-entry kind level start end = record { form = Form.leaf; kind = kind; level = level; start = start; end = end }
-
-abbrev pub node-entry : ℕ → ℕ → ℕ → ℕ → Entry
-node-entry kind level start end = record { form = Form.node; kind = kind; level = level; start = start; end = end }
-
 -- A node that begins there; its kind and its end are put in when it ends.
 abbrev pub open-kind : ℕ
 open-kind = 0
