@@ -49,6 +49,7 @@ fn same_pen(p: Pen) -> Pen
     ensures { λ r. ⌜ r ≡ p ⌝ }
 {
     Pen {
+        base: p.base,
         n: p.n,
         depth: p.depth,
         pos: p.pos,

@@ -53,7 +53,7 @@ fn unglued(c: u8, d: u8) -> bool
     if c == Kind::LANGLE {
         return false;
     }
-    glue::operators::glue(c, d) == 0
+    syntax_kind::operators::glue(c, d) == 0
 }
 
 // The token at a place that begins with punctuation of class c, where it is one character; of kind 0 where that is not seen at once.
@@ -90,7 +90,7 @@ fn quick(src: &[u8], classes: &[u8; 256], at: usize, c: u8) -> Token
         return Token { kind, end };
     }
     if c == Class::WS {
-        return pre::punct::whitespace(src, classes, at + 1);
+        return pre::whitespace::whitespace(src, classes, at + 1);
     }
     if c == Class::DIGIT {
         return pre::digits::digits(src, classes, at + 1);
@@ -116,7 +116,7 @@ fn shows_text(src: &[u8], classes: &[u8; 256], at: usize) -> bool
     requires { ⌜ now classes ≡ class-table ⌝ }
     ensures { λ r. ⌜ (r ≡ true → Shown (now (src .entry)) at) ⌝ }
 {
-    let t = pre::punct::whitespace(src, classes, at);
+    let t = pre::whitespace::whitespace(src, classes, at);
     let i = t.end;
     if src.len() <= i {
         return false;

@@ -32,7 +32,6 @@ Offset = record { kind = 1; end = 4 }
 abbrev pub numbers : Entry → List ℕ  -- The numbers of one entry.
 numbers e = entry-numbers (e ∷ [])
 
--- The entries that the writer makes.
 -- A node that begins there; its kind and its end are put in when it ends.
 abbrev pub open-kind : ℕ
 open-kind = 0
