@@ -1,2 +1,4 @@
 pub mod Worked
 pub mod Pinned
+pub mod Recorded
+pub mod Asked
