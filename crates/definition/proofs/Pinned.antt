@@ -4,7 +4,7 @@ use mathlib.Core.Path.{_≡_, refl, sym}
 use mathlib.Core.Bool.{false≢true}
 use Rattle.definition.specs.Text.{ℕ, zero, suc, Bool, true, false, not, _&&_, _||_, List, [], _∷_, _++_, map, some, eqb, length, replicate, if_then_else_, ascii, same}
 use Rattle.definition.specs.SyntaxKind.{Kind as K}
-use Rattle.definition.specs.Utf8.{forms, follow, left, cut, broken, utf8}
+use Rattle.definition.specs.Utf8.{char-forms, follow, left, cut, broken, utf8}
 use Rattle.definition.specs.Runs.{runs, grouped}
 use Rattle.definition.specs.Newline.{char-more, chars, LETTER, DIGIT, NEWLINE, WS, PUNCT, class}
 use Rattle.definition.specs.Unescaped.{unescaped-chars, unescaped}
@@ -98,22 +98,22 @@ whole [] = []
 whole (c ∷ cs) = c ++ whole cs
 
 characters : utf8 (whole borders) ≡ true
-unfolding utf8 left follow forms whole
+unfolding utf8 left follow char-forms whole
 characters = refl
 
 -- A later byte that is none, and a character cut off.
 spoilt-ones : map (left []) (later (spoilt 0x7F) borders ++ later (spoilt 0xC0) borders) ≡ replicate 72 broken
-unfolding left follow forms later spoilt
+unfolding left follow char-forms later spoilt
 spoilt-ones = refl
 
 cut-ones : map (left []) (later cuts borders) ≡ replicate 36 cut
-unfolding left follow forms later cuts
+unfolding left follow char-forms later cuts
 cut-ones = refl
 
 -- Bytes that begin no character, overlong forms, surrogates, and what lies above the last character.
 no-characters : map (left []) ((0x80 ∷ []) ∷ (0xBF ∷ []) ∷ (0xC1 ∷ []) ∷ (0xE0 ∷ 0x9F ∷ []) ∷ (0xED ∷ 0xA0 ∷ []) ∷ (0xF0 ∷ 0x8F ∷ []) ∷
     (0xF4 ∷ 0x90 ∷ []) ∷ (0xF5 ∷ []) ∷ (0xFF ∷ []) ∷ []) ≡ replicate 9 broken
-unfolding left follow forms
+unfolding left follow char-forms
 no-characters = refl
 
 -- Pasting: of all pairs of tokens those that don't give ERROR, as the Rust has them.

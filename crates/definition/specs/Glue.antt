@@ -7,12 +7,12 @@ use Rattle.definition.specs.Pre.{Pre, pres, kind-of}
 
 -- Two kinds, and the kind of the two together.
 pub record Glue : Type 0 where
-  pub left : ℕ
-  pub right : ℕ
+  pub lhs : ℕ
+  pub rhs : ℕ
   pub both : ℕ
 
 abbrev pub gl : ℕ → ℕ → ℕ → Glue
-gl a b c = record { left = a; right = b; both = c }
+gl a b c = record { lhs = a; rhs = b; both = c }
 
 -- The gluing steps; <<= and >>= are two steps each.
 abbrev pub glues : List Glue
@@ -32,7 +32,7 @@ glues =
 
 unfoldable pub glued : List Glue → ℕ → ℕ → Option ℕ  -- The first step for two kinds; none: they don't glue.
 glued [] a b = none
-glued (g ∷ gs) a b = if eqb (g .left) a && eqb (g .right) b then some (g .both) else glued gs a b
+glued (g ∷ gs) a b = if eqb (g .lhs) a && eqb (g .rhs) b then some (g .both) else glued gs a b
 
 -- A token: its kind and its bytes, never none.
 abbrev pub Token : Type 0

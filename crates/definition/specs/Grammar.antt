@@ -2,7 +2,7 @@
 use Rattle.definition.specs.Text.{ℕ, zero, suc, _≡_, Bool, true, false, not, _||_, List, [], _∷_, Option, none, some, if_then_else_, ascii, same, Kind}
 use Rattle.definition.specs.Unescaped.{unescaped}
 use Rattle.definition.specs.Tree.{Leaf}
-use Rattle.definition.specs.Parser.{is, trivia, newline, inline, peek}
+use Rattle.definition.specs.Parser.{is, trivia, newline-leaf, inline, peek}
 
 -- One leaf that passes a test.
 pub data One (p : Leaf → Bool) : List Leaf → List Leaf → Type 0 where
@@ -28,7 +28,7 @@ pub data Maybe (G : List Leaf → List Leaf → Type 0) : List Leaf → List Lea
 
 -- NEWLINE or the end of the whole row.
 pub data Eol : List Leaf → List Leaf → Type 0 where
-  at-newline : {t : Leaf} {R : List Leaf} → newline t ≡ true → Eol (t ∷ R) R
+  at-newline : {t : Leaf} {R : List Leaf} → newline-leaf t ≡ true → Eol (t ∷ R) R
   at-end : Eol [] []
 
 -- Trivia.
@@ -46,10 +46,10 @@ rparen t = is Kind.RPAREN t
 
 -- The leaf that a text line begins with, and the leaf that may be a directive's word.
 abbrev pub text-leaf : Leaf → Bool
-text-leaf t = not (trivia t || is Kind.HASH t || newline t)
+text-leaf t = not (trivia t || is Kind.HASH t || newline-leaf t)
 
 abbrev pub word-leaf : Leaf → Bool
-word-leaf t = not (trivia t || newline t || lparen t)
+word-leaf t = not (trivia t || newline-leaf t || lparen t)
 
 -- Up to and with the RPAREN that matches, with so many more open.
 pub data Closes : ℕ → List Leaf → List Leaf → Type 0 where
@@ -82,20 +82,20 @@ rest-of version = t* ⨟ One (is Kind.DIGITS) ⨟ Maybe (t* ⨟ IDENT_KW)
 rest-of extension = t* ⨟ IDENT_KW ⨟ t* ⨟ One (is Kind.COLON) ⨟ t* ⨟ IDENT_KW
 rest-of define = t* ⨟ IDENT_KW ⨟ Args ⨟ Many inline
 
-pub record Word : Type 0 where
+pub record WordRow : Type 0 where
   pub spelt : List ℕ
   pub rest : Rest
 
-abbrev w : List ℕ → Rest → Word
+abbrev w : List ℕ → Rest → WordRow
 w s r = record { spelt = s; rest = r }
 
-unfoldable pub words : List Word  -- The fourteen words.
+unfoldable pub words : List WordRow  -- The fourteen words.
 words =
     w (ascii "include") any ∷ w (ascii "define") define ∷ w (ascii "undef") ident ∷ w (ascii "line") any ∷ w (ascii "error") any ∷
     w (ascii "pragma") any ∷ w (ascii "version") version ∷ w (ascii "if") any ∷ w (ascii "ifdef") ident ∷ w (ascii "ifndef") ident ∷
     w (ascii "elif") any ∷ w (ascii "else") none-at-all ∷ w (ascii "endif") none-at-all ∷ w (ascii "extension") extension ∷ []
 
-unfoldable pub rest-after : List Word → List ℕ → Option Rest  -- The rest of a word; none: it is no directive.
+unfoldable pub rest-after : List WordRow → List ℕ → Option Rest  -- The rest of a word; none: it is no directive.
 rest-after [] s = none
 rest-after (x ∷ xs) s = if same (x .spelt) s then some (x .rest) else rest-after xs s
 
@@ -110,7 +110,7 @@ pub data Sort : Type 0 where
 
 -- The four items.
 abbrev pub Item : Sort → List Leaf → List Leaf → Type 0
-Item blank = t* ⨟ One newline
+Item blank = t* ⨟ One newline-leaf
 Item text = t* ⨟ One text-leaf ⨟ Many inline ⨟ Eol
 Item group = t* ⨟ One (is Kind.HASH) ⨟ t* ⨟ One lparen ⨟ Closes zero
 Item directive = t* ⨟ One (is Kind.HASH) ⨟ t* ⨟ Content ⨟ t* ⨟ Eol

@@ -10,11 +10,11 @@ is k t = eqb (t .kind) k
 abbrev pub trivia : Leaf → Bool
 trivia t = is Kind.WS t || is Kind.COMMENT t
 
-abbrev pub newline : Leaf → Bool  -- A newline is no trivia.
-newline t = is Kind.NEWLINE t
+abbrev pub newline-leaf : Leaf → Bool  -- A newline is no trivia.
+newline-leaf t = is Kind.NEWLINE t
 
 abbrev pub inline : Leaf → Bool  -- Any leaf but NEWLINE.
-inline t = not (newline t)
+inline t = not (newline-leaf t)
 
 -- The leading leaves that pass a test, the others, and whether the first passes it.
 unfoldable pub while : (Leaf → Bool) → List Leaf → List Leaf

@@ -4,7 +4,7 @@ use Rattle.definition.specs.Unescaped.{unescaped}
 use Rattle.definition.specs.Glue.{tokens}
 use Rattle.definition.specs.Tree.{Leaf, placed, bytes, stop, Forest, nil, leaf, node, row, _▹_}
 use Rattle.definition.specs.Error.{Err, ErrorKind, named-error, unexpected, end-of-input}
-use Rattle.definition.specs.Parser.{is, trivia, newline, inline, while, after, peek, Got, push, raise, Reader, _then_, wrap, skip, skip-trivia, nothing, bump, maybe, expect-one}
+use Rattle.definition.specs.Parser.{is, trivia, newline-leaf, inline, while, after, peek, Got, push, raise, Reader, _then_, wrap, skip, skip-trivia, nothing, bump, maybe, expect-one}
 
 -- Bodies. Behind a ##, each further ## opens a PP_CONCAT inside the one before it, to the row's end.
 unfoldable pub nest : List Leaf → Forest
@@ -77,7 +77,7 @@ module _ (n : ℕ) where
       if trivia t then push t (args first ts) else
       if is Kind.RPAREN t then push t (nothing ts) else
       if is (wanted first) t then push-arg first t (args (not first) ts) else
-      raise (unexpected t (arg-kinds first)) (if newline t then nothing (t ∷ ts) else push t (args (not first) ts))
+      raise (unexpected t (arg-kinds first)) (if newline-leaf t then nothing (t ∷ ts) else push t (args (not first) ts))
 
   -- One node over the list: ERROR if it has an error.
   unfoldable pub define-args : Reader
@@ -100,7 +100,7 @@ module _ (n : ℕ) where
   colon r [] = raise (end-of-input n n (Kind.COLON ∷ [])) (nothing [])
   colon r (t ∷ ts) =
       if is Kind.COLON t then (bump then r) (t ∷ ts) else
-      raise (unexpected t (Kind.COLON ∷ [])) (if newline t then nothing (t ∷ ts) else push t (nothing ts))
+      raise (unexpected t (Kind.COLON ∷ [])) (if newline-leaf t then nothing (t ∷ ts) else push t (nothing ts))
 
   unfoldable pub pp-extension : Reader  -- `extension`: a name, a colon, a behaviour.
   pp-extension = skip-trivia then ident then skip-trivia then colon (skip-trivia then ident)
@@ -116,7 +116,7 @@ extra es ts = record { tree = row (while inline ts); errs = es; rest = after inl
 unfoldable pub finish : (Leaf → ℕ → List Err) → Reader  -- e: the error, from the first extra leaf and their end.
 finish e [] = nothing []
 finish e (t ∷ ts) =
-    if newline t then bump (t ∷ ts) else
+    if newline-leaf t then bump (t ∷ ts) else
     (wrap Kind.ERROR (extra (e t (last-stop 0 (while inline (t ∷ ts))))) then bump) (t ∷ ts)
 
 -- A directive: its word, the kind of its node, and how its rest is read.
@@ -128,9 +128,9 @@ pub record Directive : Type 0 where
 abbrev dir : List ℕ → ℕ → Reader → Directive
 dir w k r = record { spelt = w; node-kind = k; reads = r }
 
-unfoldable pub named : List Directive → List ℕ → Option Directive  -- The directive of a word; none: unknown.
-named [] w = none
-named (d ∷ ds) w = if same (d .spelt) w then some d else named ds w
+unfoldable pub directive-named : List Directive → List ℕ → Option Directive  -- The directive of a word; none: unknown.
+directive-named [] w = none
+directive-named (d ∷ ds) w = if same (d .spelt) w then some d else directive-named ds w
 
 unfoldable pub directive : Leaf → Directive → Reader  -- Sort 2 for extra tokens.
 directive w d = bump then (d .reads) then skip-trivia then finish (λ t end. named-error ErrorKind.extra-tokens (t .start) end w ∷ [])
@@ -184,9 +184,9 @@ module _ (n : ℕ) (again : List Leaf → List Leaf) where
   unfoldable pub control-line : List Leaf → Line
   control-line [] = record { node-kind = some Kind.ERROR; got = nothing [] }
   control-line (t ∷ ts) =
-      if newline t then record { node-kind = some Kind.PP_EMPTY; got = bump (t ∷ ts) } else
+      if newline-leaf t then record { node-kind = some Kind.PP_EMPTY; got = bump (t ∷ ts) } else
       if is Kind.LPAREN t then group ((bump then pp-rs-ident t 0) (t ∷ ts)) else
-      elim (named directives (unescaped (t .bytes))) [
+      elim (directive-named directives (unescaped (t .bytes))) [
         | some d ↦ record { node-kind = some (d .node-kind); got = directive t d (t ∷ ts) }
         | none ↦ record { node-kind = some Kind.ERROR; got = unknown t (t ∷ ts) }
       ]

@@ -14,32 +14,32 @@ abbrev pub within : Span → ℕ → Bool
 within s b = among (s .low) (s .high) b
 
 -- A form of character: its first byte, and the bytes after it.
-pub record Form : Type 0 where
+pub record CharForm : Type 0 where
   pub first : Span
   pub later : List Span
 
-abbrev form : Span → List Span → Form
-form a l = record { first = a; later = l }
+abbrev char-form : Span → List Span → CharForm
+char-form a l = record { first = a; later = l }
 
 abbrev UTF8-tail : Span
 UTF8-tail = 0x80 ⋯ 0xBF
 
 -- UTF8-1 to UTF8-4, in the order of the section.
-unfoldable pub forms : List Form
-forms =
-    form (0x00 ⋯ 0x7F) []
-    ∷ form (0xC2 ⋯ 0xDF) (UTF8-tail ∷ [])
-    ∷ form (0xE0 ⋯ 0xE0) (0xA0 ⋯ 0xBF ∷ UTF8-tail ∷ [])
-    ∷ form (0xE1 ⋯ 0xEC) (UTF8-tail ∷ UTF8-tail ∷ [])
-    ∷ form (0xED ⋯ 0xED) (0x80 ⋯ 0x9F ∷ UTF8-tail ∷ [])
-    ∷ form (0xEE ⋯ 0xEF) (UTF8-tail ∷ UTF8-tail ∷ [])
-    ∷ form (0xF0 ⋯ 0xF0) (0x90 ⋯ 0xBF ∷ UTF8-tail ∷ UTF8-tail ∷ [])
-    ∷ form (0xF1 ⋯ 0xF3) (UTF8-tail ∷ UTF8-tail ∷ UTF8-tail ∷ [])
-    ∷ form (0xF4 ⋯ 0xF4) (0x80 ⋯ 0x8F ∷ UTF8-tail ∷ UTF8-tail ∷ [])
+unfoldable pub char-forms : List CharForm
+char-forms =
+    char-form (0x00 ⋯ 0x7F) []
+    ∷ char-form (0xC2 ⋯ 0xDF) (UTF8-tail ∷ [])
+    ∷ char-form (0xE0 ⋯ 0xE0) (0xA0 ⋯ 0xBF ∷ UTF8-tail ∷ [])
+    ∷ char-form (0xE1 ⋯ 0xEC) (UTF8-tail ∷ UTF8-tail ∷ [])
+    ∷ char-form (0xED ⋯ 0xED) (0x80 ⋯ 0x9F ∷ UTF8-tail ∷ [])
+    ∷ char-form (0xEE ⋯ 0xEF) (UTF8-tail ∷ UTF8-tail ∷ [])
+    ∷ char-form (0xF0 ⋯ 0xF0) (0x90 ⋯ 0xBF ∷ UTF8-tail ∷ UTF8-tail ∷ [])
+    ∷ char-form (0xF1 ⋯ 0xF3) (UTF8-tail ∷ UTF8-tail ∷ UTF8-tail ∷ [])
+    ∷ char-form (0xF4 ⋯ 0xF4) (0x80 ⋯ 0x8F ∷ UTF8-tail ∷ UTF8-tail ∷ [])
     ∷ []
 
 -- The bytes that must follow a first byte; none: it begins no character.
-unfoldable pub follow : List Form → ℕ → Option (List Span)
+unfoldable pub follow : List CharForm → ℕ → Option (List Span)
 follow [] b = none
 follow (f ∷ fs) b = if within (f .first) b then some (f .later) else follow fs b
 
@@ -51,7 +51,7 @@ pub data Left : Type 0 where
 unfoldable pub left : List Span → List ℕ → Left
 left [] [] = nothing
 left (s ∷ ss) [] = cut
-left [] (b ∷ bs) = elim (follow forms b) [ some ss ↦ left ss bs | none ↦ broken ]
+left [] (b ∷ bs) = elim (follow char-forms b) [ some ss ↦ left ss bs | none ↦ broken ]
 left (s ∷ ss) (b ∷ bs) = elim (within s b) [ true ↦ left ss bs | false ↦ broken ]
 
 -- Whether the bytes are UTF-8.

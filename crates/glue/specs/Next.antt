@@ -8,7 +8,7 @@ use lib.ListN.{length}
 use Rattle.definition.specs.Text.{if_then_else_, byte}
 use Rattle.definition.specs.SyntaxKind.{Kind}
 use Rattle.theorems.specs.Step.{Gluing, Stepped, glued-kind}
-use Rattle.pre.specs.Table.{entry}
+use Rattle.pre.specs.Table.{class-number}
 use Rattle.glue.specs.declared.Lexer.{Lexer}
 use Rattle.glue.specs.declared.Next.{Next}
 use Rattle.glue.specs.declared.Next.the-variants.{Token, End}
@@ -24,7 +24,7 @@ settled k = ltb k Kind.PERIOD || (ltb Kind.HASH k && ltb k Kind.LEFT_OP)
 
 -- The kind of an operator together with a token that begins with b, 0 where they do not glue.
 unfoldable pub peeked : ℕ → ℕ → Bool → ℕ
-peeked k b angle = if angle && eqb b (byte "<") then 0 else glued-kind k (entry b)
+peeked k b angle = if angle && eqb b (byte "<") then 0 else glued-kind k (class-number b)
 
 -- An operator that may glue on: it is no PERIOD.
 pub record Operator (s : List ℕ) (start : ℕ) (f : Bool) (k e : ℕ) (g : Bool) : Type 0 where

@@ -1,7 +1,7 @@
 // The line table of a source, and looking an offset up in one (line_map.rs).
 use text::Counted;
 use text::newline;
-use text::refusal;
+use text::refusal::Refusal;
 use text::source;
 use text::table;
 ghost use mathlib.Core.Path.{_≡_};
@@ -39,7 +39,7 @@ pub fn build(src: &[u8], lines: &mut [u32]) -> Counted
 {
     table::clear(lines);
     let refused = source::refused(src);
-    if refused != refusal::NONE {
+    if refused != Refusal::NONE {
         return Counted {
             refusal: refused,
             count: 0,
@@ -49,12 +49,12 @@ pub fn build(src: &[u8], lines: &mut [u32]) -> Counted
     if lines.len() < n {
         table::clear(lines);
         return Counted {
-            refusal: refusal::SHORT_LINES,
+            refusal: Refusal::LINES,
             count: 0,
         };
     }
     Counted {
-        refusal: refusal::NONE,
+        refusal: Refusal::NONE,
         count: n as u32,
     }
 }
@@ -110,12 +110,12 @@ pub fn get_line_and_col(lines: &[u32], offset: u32) -> Place
 {
     match find(lines, offset) {
         Found::At { line, column } => Place {
-            refusal: refusal::NONE,
+            refusal: Refusal::NONE,
             line,
             column,
         },
         Found::NoTable => Place {
-            refusal: refusal::NO_LINE_TABLE,
+            refusal: Refusal::LOOKUP,
             line: 0,
             column: 0,
         },

@@ -10,26 +10,26 @@ use mir.Val.{Fits}
 use mir.Syntax.{w32, w64}
 use Rattle.definition.specs.SyntaxKind.{Kind}
 use Rattle.definition.specs.Tree.{Leaf}
-use Rattle.definition.specs.Parser.{newline}
-use Rattle.theorems.specs.Left.{left}
+use Rattle.definition.specs.Parser.{newline-leaf}
+use Rattle.theorems.specs.LeavesFrom.{leaves-from}
 use Rattle.theorems.specs.TextLines.{Lines}
-use Rattle.theorems.proofs.Left.{left-over}
+use Rattle.theorems.proofs.LeavesFrom.{leaves-over}
 use Rattle.theorems.proofs.TextLines.{lines-end, lines-stop, lines-inline, lines-newline}
 use Rattle.tree.specs.Machine.{sheet, leafed, leafs}
 use Rattle.tree.specs.declared.Pen.{Pen}
 use Rattle.parser.specs.declared.Seen.{Seen}
 use Rattle.parser.specs.declared.Run.{Run}
-use Rattle.parser.specs.Rest.{leaf-seen, rest-of, Held, Sees}
+use Rattle.parser.specs.Rest.{leaf-seen, unread, Held, Sees}
 use Rattle.parser.specs.Lines.{Going, Lined}
 use Rattle.parser.proofs.Taking.{none-seen, one-seen}
 
 -- At the end of the source no leaf is left.
 lined-end : (src t : List ℕ) (p : Pen) (i : ℕ) (f : Bool) → length src ≤ i
-    → Lined src (left src i f) t p t (record { seen = record { kind = 0; start = i; end = i; angle = f }; pen = p })
+    → Lined src (leaves-from src i f) t p t (record { seen = record { kind = 0; start = i; end = i; angle = f }; pen = p })
 unfolding leafs Held
 lined-end src t p i f h =
     let s : Seen = record { kind = 0; start = i; end = i; angle = f } in
-    record { taken = []; tree = refl; lines = rw (left-over src i f h, none-seen src s refl) lines-end; held = λ n. absurd (n refl) }
+    record { taken = []; tree = refl; lines = rw (leaves-over src i f h, none-seen src s refl) lines-end; held = λ n. absurd (n refl) }
 
 -- A leaf that is seen, and what follows it: b says whether text goes on.
 module _ (src : List ℕ) (x : Seen) (n : x .kind ≡ 0 → ⊥) (k : Held src x) (t t₁ : List ℕ) (p p₁ : Pen)
@@ -38,18 +38,18 @@ module _ (src : List ℕ) (x : Seen) (n : x .kind ≡ 0 → ⊥) (k : Held src x
   first = leaf-seen src x
 
   abbrev behind : List Leaf
-  behind = left src (x .end) (x .angle)
+  behind = leaves-from src (x .end) (x .angle)
 
-  pub lined-more : (t′ : List ℕ) (r : Run) → b ≡ true → Lined src behind t₁ p₁ t′ r → Lined src (rest-of src x) t p t′ r
+  pub lined-more : (t′ : List ℕ) (r : Run) → b ≡ true → Lined src behind t₁ p₁ t′ r → Lined src (unread src x) t p t′ r
   unfolding leafs Held
   lined-more t′ r e l =
-      rw (one-seen src x n) (record { taken = first ∷ l .taken; tree = l .tree ∙ rw (w, k n .0) refl; lines = go (newline first) refl; held = l .held })
+      rw (one-seen src x n) (record { taken = first ∷ l .taken; tree = l .tree ∙ rw (w, k n .0) refl; lines = go (newline-leaf first) refl; held = l .held })
     where
-      go : (u : Bool) → newline first ≡ u → Lines (first ∷ l .taken) (first ∷ behind) (rest-of src (r .seen))
-      go true z = lines-newline first behind (l .taken) (rest-of src (r .seen)) (l .lines) z (g .on e (eqb-true _ _ z) .text (x .angle))
-      go false z = lines-inline first behind (l .taken) (rest-of src (r .seen)) (l .lines) z
+      go : (u : Bool) → newline-leaf first ≡ u → Lines (first ∷ l .taken) (first ∷ behind) (unread src (r .seen))
+      go true z = lines-newline first behind (l .taken) (unread src (r .seen)) (l .lines) z (g .on e (eqb-true _ _ z) .text (x .angle))
+      go false z = lines-inline first behind (l .taken) (unread src (r .seen)) (l .lines) z
 
-  pub lined-stop : (m : Seen) → b ≡ false → Sees src (x .end) (x .angle) m → Lined src (rest-of src x) t p t₁ (record { seen = m; pen = p₁ })
+  pub lined-stop : (m : Seen) → b ≡ false → Sees src (x .end) (x .angle) m → Lined src (unread src x) t p t₁ (record { seen = m; pen = p₁ })
   unfolding leafs Held
   lined-stop m e s = rw (one-seen src x n) (record {
     taken = first ∷ [];
@@ -60,11 +60,11 @@ module _ (src : List ℕ) (x : Seen) (n : x .kind ≡ 0 → ⊥) (k : Held src x
 
 -- What leads to the end from where the loop stands leads there from where it began.
 pub record Toward (src : List ℕ) (before : List Leaf) (t₀ : List ℕ) (p₀ : Pen) (i : ℕ) (f : Bool) (t : List ℕ) (p : Pen) : Type 0 where
-  pub go : (t′ : List ℕ) (r : Run) → Lined src (left src i f) t p t′ r → Lined src before t₀ p₀ t′ r
+  pub go : (t′ : List ℕ) (r : Run) → Lined src (leaves-from src i f) t p t′ r → Lined src before t₀ p₀ t′ r
   pub long : length t ≡ length t₀
   pub place : Fits w32 i
 
-pub toward-start : (src t : List ℕ) (p : Pen) (i : ℕ) (f : Bool) → Fits w32 i → Toward src (left src i f) t p i f t p
+pub toward-start : (src t : List ℕ) (p : Pen) (i : ℕ) (f : Bool) → Fits w32 i → Toward src (leaves-from src i f) t p i f t p
 toward-start src t p i f h = record { go = λ t′ r l. l; long = refl; place = h }
 
 module _ (src : List ℕ) (before : List Leaf) (t₀ : List ℕ) (p₀ : Pen) (i : ℕ) (f : Bool) (t : List ℕ) (p : Pen) (k : Toward src before t₀ p₀ i f t p) where
@@ -81,7 +81,7 @@ module _ (src : List ℕ) (before : List Leaf) (t₀ : List ℕ) (p₀ : Pen) (i
     some-leaf : x .kind ≡ 0 → ⊥
     some-leaf z = omega (arith, s .over z .1)
 
-    pub toward-fewer : length (left src (x .end) (x .angle)) < length (left src i f)
+    pub toward-fewer : length (leaves-from src (x .end) (x .angle)) < length (leaves-from src i f)
     toward-fewer = rw (← s .rest, one-seen src x some-leaf) (omega arith)
 
     module _ (t₁ : List ℕ) (p₁ : Pen) (w : sheet t₁ p₁ ≡ leafed (x .kind) (x .start) (x .end) (sheet t p)) (b : Bool) (g : Going src (x .kind) (x .end) b) where

@@ -12,13 +12,13 @@ use lib.ListN.{length}
 use Rattle.definition.specs.Text.{if_then_else_, Kind}
 use Rattle.definition.specs.Calls.{longest-source}
 use Rattle.theorems.specs.Step.{Stepped}
-use Rattle.theorems.specs.Left.{leaf-kind}
-use Rattle.theorems.proofs.Left.{left-step, left-over, stop-between}
+use Rattle.theorems.specs.LeavesFrom.{leaf-kind}
+use Rattle.theorems.proofs.LeavesFrom.{leaves-step, leaves-over, stop-between}
 use Rattle.glue.specs.declared.Step.{Step}
 use Rattle.glue.specs.declared.Next.{Next}
 use Rattle.glue.specs.declared.Next.the-variants.{Token, End}
 use Rattle.glue.specs.Next.{Nexts}
-use Rattle.parser.specs.Rest.{rest-of, Held, Sees}
+use Rattle.parser.specs.Rest.{unread, Held, Sees}
 
 -- A leaf's kind is not 0.
 some-leaf : (k : ℕ) → (k ≡ 0 → ⊥) → leaf-kind k ≡ 0 → ⊥
@@ -31,11 +31,11 @@ some-leaf k h = go (eqb k Kind.LINECONT) refl
 -- A step of the lexer is seen as the leaf of its token.
 pub seen-step : (src : List ℕ) (at : ℕ) (f : Bool) (k e : ℕ) (g : Bool) → Stepped src at f k e g → (j : ℕ) → j ≡ leaf-kind k
     → Sees src at f (record { kind = j; start = at; end = e; angle = g })
-unfolding rest-of Held
+unfolding unread Held
 seen-step src at f k e g u j h =
     let z : eqb j 0 ≡ false = ne-eqb j 0 (λ w. some-leaf k (u .some-kind) (sym h ∙ w)) in
     record {
-      rest = rw (z, h) (sym (left-step src at f k e g u));
+      rest = rw (z, h) (sym (leaves-step src at f k e g u));
       held = λ n. (stop-between src at f k e g u, u .forward);
       starts = refl;
       over = λ w. absurd (eqb-false j 0 z w);
@@ -54,5 +54,5 @@ module _ (src : List ℕ) (at : ℕ) (angle : Bool) (x : Next) (y : Nexts src (r
     seen-token k e = seen-step src at angle _ _ _ stepped k e
 
   pub seen-end : x ≡ End → Sees src at angle (record { kind = 0; start = at; end = at; angle = angle })
-  unfolding Nexts rest-of Held
-  seen-end q = let o : length src ≤ at = rw q at y in record { rest = sym (left-over src at angle o); held = λ h. absurd (h refl); starts = refl; over = λ w. (refl, o) }
+  unfolding Nexts unread Held
+  seen-end q = let o : length src ≤ at = rw q at y in record { rest = sym (leaves-over src at angle o); held = λ h. absurd (h refl); starts = refl; over = λ w. (refl, o) }

@@ -16,9 +16,9 @@ use Rattle.definition.specs.SyntaxKind.{Kind}
 use Rattle.definition.specs.Newline.{blank, chars}
 use Rattle.definition.specs.Pre.{done, whitespace, begin, flag}
 use Rattle.definition.specs.Calls.{longest-source}
-use Rattle.theorems.specs.Walk.{walk, named}
+use Rattle.theorems.specs.Walk.{walk, name-kind}
 use Rattle.theorems.specs.Step.{Stepped, Pre-stepped}
-use Rattle.theorems.specs.Left.{left}
+use Rattle.theorems.specs.LeavesFrom.{leaves-from}
 use Rattle.theorems.specs.TextLines.{Text}
 use Rattle.theorems.proofs.Lexing.Gluing.{glue-start}
 use Rattle.theorems.proofs.Lexing.PreAt.{glue-settled}
@@ -26,7 +26,7 @@ use Rattle.theorems.proofs.Lexing.Open.{blanks-only, Kinds, open-kind, quiet-se
 use Rattle.theorems.proofs.Lexing.Texts.{text-byte, text-slash, text-behind}
 use Rattle.text.specs.Newline.{newline-len}
 use Rattle.text.proofs.Newlines as newlines
-use Rattle.pre.specs.Table.{Entry, entry}
+use Rattle.pre.specs.Table.{ClassNumber, class-number}
 use Rattle.pre.specs.Scan.{from}
 use Rattle.pre.specs.declared.token.Token.{Token}
 use Rattle.pre.proofs.Classes.{says, closed-blank}
@@ -60,28 +60,28 @@ module _ (s : List ℕ) (at : ℕ) (t : Token) (e : t ≡ from whitespace 0 at s
       = ap (λ r. drop (r .end) s) e ∙ sym (drop-drop (walk whitespace 0 (drop at s) .long) at s) in
       head-at (λ b. blank b ≡ false) s (t .end) h (rw d (blanks-end 0 (drop at s)))
 
-  text-here : (x : ℕ) → t .end < length s → x ≡ getD s (t .end + 1) 0 → Begins (getD s (t .end) 0) x → (f : Bool) → Text (left s (t .end) f)
+  text-here : (x : ℕ) → t .end < length s → x ≡ getD s (t .end + 1) 0 → Begins (getD s (t .end) 0) x → (f : Bool) → Text (leaves-from s (t .end) f)
   text-here x h y k f = go (eqb (getD s (t .end) 0) (byte "/")) refl
     where
-      go : (u : Bool) → eqb (getD s (t .end) 0) (byte "/") ≡ u → Text (left s (t .end) f)
+      go : (u : Bool) → eqb (getD s (t .end) 0) (byte "/") ≡ u → Text (leaves-from s (t .end) f)
       go true z = let p : getD s (t .end) 0 ≡ byte "/" = eqb-true _ _ z in text-slash s (t .end) f h p (λ w. k .no-comment p (y ∙ w))
       go false z = text-byte s (t .end) f h (no-blank h) (k .no-hash) (eqb-false _ _ z) (k .no-backslash)
 
   -- Blanks stand before it, or it begins the line.
-  text-from : ((f : Bool) → Text (left s (t .end) f)) → t .end < length s → (f : Bool) → Text (left s at f)
+  text-from : ((f : Bool) → Text (leaves-from s (t .end) f)) → t .end < length s → (f : Bool) → Text (leaves-from s at f)
   unfolding from Kinds
   text-from k h f = elim (decLt at (length s)) [
-    | yes l ↦ go l (eqb (entry (getD s at 0)) Entry.WS) refl
+    | yes l ↦ go l (eqb (class-number (getD s at 0)) ClassNumber.WS) refl
     | no l ↦ absurd (let m : length s ≤ at = omega arith in omega (arith, ap (λ r. r .end) (e ∙ from-end whitespace 0 at s m)))
   ]
     where
-      go : at < length s → (u : Bool) → eqb (entry (getD s at 0)) Entry.WS ≡ u → Text (left s at f)
+      go : at < length s → (u : Bool) → eqb (class-number (getD s at 0)) ClassNumber.WS ≡ u → Text (leaves-from s at f)
       go l true z =
-          let y : entry (getD s at 0) ≡ Entry.WS = eqb-true _ _ z in
+          let y : class-number (getD s at 0) ≡ ClassNumber.WS = eqb-true _ _ z in
           let m : t ≡ from whitespace 0 (at + 1) s
           = e ∙ go-on whitespace whitespace at s l (closed-blank _ _ refl y) (whitespace-goes _ _ refl y) in
           let w : t .kind ≡ Kind.WS = ap (λ r. r .kind) e ∙ open-kind (λ k. k ≡ Kind.WS) refl whitespace 0 (drop at s) blanks-only in
-          let u : Stepped s at f (t .kind) (t .end) f = quick-blanks s at l (entry (getD s at 0)) refl t y m .step (λ n. omega arith) f in
+          let u : Stepped s at f (t .kind) (t .end) f = quick-blanks s at l (class-number (getD s at 0)) refl t y m .step (λ n. omega arith) f in
           text-behind s at f Kind.WS (t .end) f (rw w at u) refl (k f)
       go l false z =
           let m : t .end ≡ at = ap (λ r. r .end) (e ∙ stop-at whitespace at s l (whitespace-stops _ _ refl (eqb-false _ _ z))) in
@@ -107,7 +107,7 @@ module _ (s : List ℕ) (at : ℕ) (f : Bool) where
   seen-quick q k h = seen-as s at f (q .kind) (q .end) f (k .step (λ z. omega arith) f) (k .no-linecont)
 
   -- A newline of w bytes.
-  module _ (h : at < length s) (c : ℕ) (y : c ≡ entry (getD s at 0)) (z : c ≡ Entry.NEWLINE) (w : ℕ) (e : w ≡ newline-len (chars (drop at s))) where
+  module _ (h : at < length s) (c : ℕ) (y : c ≡ class-number (getD s at 0)) (z : c ≡ ClassNumber.NEWLINE) (w : ℕ) (e : w ≡ newline-len (chars (drop at s))) where
     some-width : w ≡ 0 → ⊥
     some-width x = false≢true (sym (newlines.no-newline s at w h e x) ∙ says _ c y .newline-is z)
 
@@ -116,7 +116,7 @@ module _ (s : List ℕ) (at : ℕ) (f : Bool) where
     newline-flag = rw (says _ c y .newline-is z) (and-false f)
 
     pub seen-newline : Sees s at f (record { kind = Kind.NEWLINE; start = at; end = at + w; angle = false })
-    unfolding named
+    unfolding name-kind
     seen-newline =
         let x : token Kind.NEWLINE (at + w) ≡ from (begin f (getD s at 0)) (getD s at 0) (at + 1) s
         = rw (begin-newline _ c f y z) (sym (behind-newline (done Kind.NEWLINE) at s w h e some-width ∙ done-is Kind.NEWLINE (at + w) s)) in

@@ -10,29 +10,29 @@ use lib.ListN.{length}
 use Rattle.definition.specs.Text.{if_then_else_}
 use Rattle.definition.specs.Tree.{Leaf, leaves}
 use Rattle.definition.specs.Parser.{trivia, while, after, peek, bump, skip, skip-trivia}
-use Rattle.theorems.specs.Left.{left}
+use Rattle.theorems.specs.LeavesFrom.{leaves-from}
 use Rattle.theorems.proofs.Tiling.Leaves.{leaves-row, while-yes, while-stop, after-yes, after-stop}
 use Rattle.tree.specs.Machine.{sheet, leafed, leafs}
 use Rattle.tree.specs.declared.Pen.{Pen}
 use Rattle.parser.specs.declared.Seen.{Seen}
 use Rattle.parser.specs.declared.Run.{Run}
-use Rattle.parser.specs.Rest.{run-of, leaf-seen, rest-of, Held, Sees, trivial, Takes}
+use Rattle.parser.specs.Rest.{run-of, leaf-seen, unread, Held, Sees, trivial, Takes}
 
 module _ (src : List ℕ) (x : Seen) where
-  pub none-seen : x .kind ≡ 0 → rest-of src x ≡ []
-  unfolding rest-of
+  pub none-seen : x .kind ≡ 0 → unread src x ≡ []
+  unfolding unread
   none-seen e = rw (eq-eqb (x .kind) 0 e)
 
-  pub one-seen : (x .kind ≡ 0 → ⊥) → rest-of src x ≡ leaf-seen src x ∷ left src (x .end) (x .angle)
-  unfolding rest-of
+  pub one-seen : (x .kind ≡ 0 → ⊥) → unread src x ≡ leaf-seen src x ∷ leaves-from src (x .end) (x .angle)
+  unfolding unread
   one-seen h = rw (ne-eqb (x .kind) 0 h)
 
   -- What is seen fails a test, or is the end.
-  pub not-peeked : (p : Leaf → Bool) → p (leaf-seen src x) ≡ false → peek p (rest-of src x) ≡ false
-  unfolding rest-of peek
+  pub not-peeked : (p : Leaf → Bool) → p (leaf-seen src x) ≡ false → peek p (unread src x) ≡ false
+  unfolding unread peek
   not-peeked p e = go (eqb (x .kind) 0)
     where
-      go : (z : Bool) → peek p (if z then [] else leaf-seen src x ∷ left src (x .end) (x .angle)) ≡ false
+      go : (z : Bool) → peek p (if z then [] else leaf-seen src x ∷ leaves-from src (x .end) (x .angle)) ≡ false
       go true = refl
       go false = e
 
@@ -44,7 +44,7 @@ leaf-written t t′ p p′ x w e q = q ∙ ap (λ k. leafed k (x .start) (x .end
 -- Nothing is taken at the end.
 pub bump-none : (src t : List ℕ) (r : Run) → Held src (r .seen) → r .seen .kind ≡ 0 → Takes src bump t r t r
 unfolding bump leaves leafs
-bump-none src t r h e = let q : rest-of src (r .seen) ≡ [] = none-seen src (r .seen) e in
+bump-none src t r h e = let q : unread src (r .seen) ≡ [] = none-seen src (r .seen) e in
     record { tree = rw q refl; rest = rw q refl; held = h }
 
 -- One leaf is taken.
@@ -52,13 +52,13 @@ pub bump-one : (src t t′ : List ℕ) (r r′ : Run) (p : Pen) (n : Seen) → H
     → sheet t′ p ≡ leafed (r .seen .kind) (r .seen .start) (r .seen .end) (sheet t (r .pen)) → Sees src (r .seen .end) (r .seen .angle) n → r′ ≡ run-of n p → Takes src bump t r t′ r′
 unfolding bump leaves leafs Held
 bump-one src t t′ r r′ p n h z q k e =
-    let o : rest-of src (r .seen) ≡ leaf-seen src (r .seen) ∷ left src (r .seen .end) (r .seen .angle) = one-seen src (r .seen) z in
+    let o : unread src (r .seen) ≡ leaf-seen src (r .seen) ∷ leaves-from src (r .seen .end) (r .seen .angle) = one-seen src (r .seen) z in
     rw e (record { tree = rw (o, h z .0) q; rest = rw o (k .rest); held = k .held })
 
 -- A loop that writes the leaves which pass a test: those still to be written where it stands, at x, are the rest of those where it began, at x₀.
 pub record Writing (src : List ℕ) (q : Leaf → Bool) (t₀ : List ℕ) (p₀ : Pen) (x₀ : Seen) (t : List ℕ) (p : Pen) (x : Seen) : Type 0 where
-  pub tree : leafs (sheet t p) (while q (rest-of src x)) ≡ leafs (sheet t₀ p₀) (while q (rest-of src x₀))
-  pub rest : after q (rest-of src x) ≡ after q (rest-of src x₀)
+  pub tree : leafs (sheet t p) (while q (unread src x)) ≡ leafs (sheet t₀ p₀) (while q (unread src x₀))
+  pub rest : after q (unread src x) ≡ after q (unread src x₀)
   pub held : Held src x
   pub long : length t ≡ length t₀
 
@@ -72,15 +72,15 @@ module _ {src : List ℕ} {q : Leaf → Bool} {t₀ : List ℕ} {p₀ : Pen} {x�
   -- One leaf more.
   module _ (z : x .kind ≡ 0 → ⊥) (e : q (leaf-seen src x) ≡ true) (t′ : List ℕ) (p′ : Pen) (w : sheet t′ p′ ≡ leafed (x .kind) (x .start) (x .end) (sheet t p)) where
     abbrev behind : List Leaf
-    behind = left src (x .end) (x .angle)
+    behind = leaves-from src (x .end) (x .angle)
 
-    pub tree-behind : leafs (sheet t′ p′) (while q behind) ≡ leafs (sheet t₀ p₀) (while q (rest-of src x₀))
+    pub tree-behind : leafs (sheet t′ p′) (while q behind) ≡ leafs (sheet t₀ p₀) (while q (unread src x₀))
     unfolding leafs Held
     tree-behind =
         ap (λ v. leafs v (while q behind)) (w ∙ ap (λ n. leafed (x .kind) (x .start) n (sheet t p)) (sym (k .held z .0)))
         ∙ rw (one-seen src x z, while-yes q (leaf-seen src x) behind e) at (k .tree)
 
-    pub write-more : (n : Seen) → rest-of src n ≡ behind → Held src n → length t′ ≡ length t → Writing src q t₀ p₀ x₀ t′ p′ n
+    pub write-more : (n : Seen) → unread src n ≡ behind → Held src n → length t′ ≡ length t → Writing src q t₀ p₀ x₀ t′ p′ n
     write-more n r h l = record {
       tree = rw r tree-behind;
       rest = rw r (rw (one-seen src x z, after-yes q (leaf-seen src x) behind e) at (k .rest));
@@ -89,13 +89,13 @@ module _ {src : List ℕ} {q : Leaf → Bool} {t₀ : List ℕ} {p₀ : Pen} {x�
     }
 
   -- No leaf more.
-  module _ (d : peek q (rest-of src x) ≡ false) where
-    pub tree-done : sheet t p ≡ leafs (sheet t₀ p₀) (while q (rest-of src x₀))
+  module _ (d : peek q (unread src x) ≡ false) where
+    pub tree-done : sheet t p ≡ leafs (sheet t₀ p₀) (while q (unread src x₀))
     unfolding leafs
-    tree-done = rw (while-stop q (rest-of src x) d) at (k .tree)
+    tree-done = rw (while-stop q (unread src x) d) at (k .tree)
 
-    rest-done : rest-of src x ≡ after q (rest-of src x₀)
-    rest-done = rw (after-stop q (rest-of src x) d) at (k .rest)
+    rest-done : unread src x ≡ after q (unread src x₀)
+    rest-done = rw (after-stop q (unread src x) d) at (k .rest)
 
 -- Trivia is no end.
 pub some-trivia : (k : ℕ) → trivial k ≡ true → k ≡ 0 → ⊥
@@ -107,7 +107,7 @@ module _ (src t₀ t : List ℕ) (r₀ r : Run) (k : Writing src trivia t₀ (r�
     some : r .seen .kind ≡ 0 → ⊥
     some = some-trivia (r .seen .kind) (sym d ∙ e)
 
-    rest-behind : rest-of src (r′ .seen) ≡ left src (r .seen .end) (r .seen .angle)
+    rest-behind : unread src (r′ .seen) ≡ leaves-from src (r .seen .end) (r .seen .angle)
     unfolding bump
     rest-behind = x .rest ∙ ap (λ l. bump l .rest) (one-seen src (r .seen) some)
 
@@ -117,13 +117,13 @@ module _ (src t₀ t : List ℕ) (r₀ r : Run) (k : Writing src trivia t₀ (r�
         write-more k some (sym d ∙ e) t′ (r′ .pen)
         (rw (one-seen src (r .seen) some, k .held some .0) at (x .tree)) (r′ .seen) rest-behind (x .held) l
 
-    pub skip-fewer : length (rest-of src (r′ .seen)) < length (rest-of src (r .seen))
+    pub skip-fewer : length (unread src (r′ .seen)) < length (unread src (r .seen))
     skip-fewer = rw (rest-behind, one-seen src (r .seen) some) (omega arith)
 
   pub skip-done : b ≡ false → Takes src skip-trivia t₀ r₀ t r
   unfolding skip-trivia skip
   skip-done e =
-      let p : peek trivia (rest-of src (r .seen)) ≡ false = not-peeked src (r .seen) trivia (sym d ∙ e) in
+      let p : peek trivia (unread src (r .seen)) ≡ false = not-peeked src (r .seen) trivia (sym d ∙ e) in
       record {
         tree = rw leaves-row (tree-done k p);
         rest = rest-done k p;

@@ -6,14 +6,14 @@ use mathlib.Core.List.{List}
 use Rattle.definition.specs.Text.{byte, Kind}
 use Rattle.definition.specs.Tree.{Leaf}
 use Rattle.theorems.specs.Step.{Stepped, glued-kind}
-use Rattle.theorems.specs.Left.{left}
+use Rattle.theorems.specs.LeavesFrom.{leaves-from}
 use Rattle.theorems.specs.TextLines.{Text, Lines}
-use Rattle.pre.specs.Table.{Entry}
+use Rattle.pre.specs.Table.{ClassNumber}
 use Rattle.pre.specs.declared.token.Token.{Token}
 use Rattle.tree.specs.Machine.{sheet, leafs}
 use Rattle.tree.specs.declared.Pen.{Pen}
 use Rattle.parser.specs.declared.Run.{Run}
-use Rattle.parser.specs.Rest.{rest-of, Held}
+use Rattle.parser.specs.Rest.{unread, Held}
 
 -- A character of class c is a token before one of class d: nothing glues, and it begins no longer token.
 pub record Alone (c d : ℕ) : Type 0 where
@@ -21,7 +21,7 @@ pub record Alone (c d : ℕ) : Type 0 where
   pub high : c ≤ Kind.HASH
   pub no-slash : c ≡ Kind.SLASH → ⊥
   pub no-less : c ≡ Kind.LANGLE → ⊥
-  pub no-number : c ≡ Kind.PERIOD → d ≡ Entry.DIGIT → ⊥
+  pub no-number : c ≡ Kind.PERIOD → d ≡ ClassNumber.DIGIT → ⊥
   pub no-glue : (c ≡ Kind.PERIOD → ⊥) → 0 ≡ glued-kind c d
 
 -- Whatever follows.
@@ -41,7 +41,7 @@ pub record Begins (b x : ℕ) : Type 0 where
 
 -- No directive begins at a place, whatever the flag.
 pub record Shown (src : List ℕ) (at : ℕ) : Type 0 where
-  pub text : (f : Bool) → Text (left src at f)
+  pub text : (f : Bool) → Text (leaves-from src at f)
 
 -- Whether text goes on behind a leaf.
 pub record Going (src : List ℕ) (kind end : ℕ) (r : Bool) : Type 0 where
@@ -52,5 +52,5 @@ pub record Going (src : List ℕ) (kind end : ℕ) (r : Bool) : Type 0 where
 pub record Lined (src : List ℕ) (before : List Leaf) (t : List ℕ) (p : Pen) (t′ : List ℕ) (r : Run) : Type 0 where
   pub taken : List Leaf
   pub tree : sheet t′ (r .pen) ≡ leafs (sheet t p) taken
-  pub lines : Lines taken before (rest-of src (r .seen))
+  pub lines : Lines taken before (unread src (r .seen))
   pub held : Held src (r .seen)

@@ -6,10 +6,10 @@ use mathlib.Core.List.{List}
 use lib.Dec.{ltb}
 use Rattle.definition.specs.Tree.{Leaf}
 use Rattle.definition.specs.Parser.{trivia, while, after}
-use Rattle.theorems.specs.Left.{left}
+use Rattle.theorems.specs.LeavesFrom.{leaves-from}
 use Rattle.parser.specs.declared.Seen.{Seen}
 use Rattle.parser.specs.declared.trivia.Trivia.{Trivia}
-use Rattle.parser.specs.Rest.{rest-of, Held}
+use Rattle.parser.specs.Rest.{unread, Held}
 
 -- A row of trivia, from its first leaf to the leaf behind it.
 abbrev pub row-of : Seen → Seen → Trivia
@@ -21,8 +21,8 @@ before stop t = ltb (t .start) stop
 
 -- A row of trivia: `next` is seen behind it, and its leaves are those that start before that one.
 pub record Passed (src : List ℕ) (r : Trivia) : Type 0 where
-  pub rest : rest-of src (r .next) ≡ after trivia (rest-of src (r .first))
-  pub row : while (before (r .next .start)) (rest-of src (r .first)) ≡ while trivia (rest-of src (r .first))
+  pub rest : unread src (r .next) ≡ after trivia (unread src (r .first))
+  pub row : while (before (r .next .start)) (unread src (r .first)) ≡ while trivia (unread src (r .first))
   pub first-held : Held src (r .first)
   pub next-held : Held src (r .next)
 
@@ -33,5 +33,5 @@ pub record Passes (src : List ℕ) (x : Seen) (r : Trivia) : Type 0 where
 
 -- and from a place on.
 pub record Behind (src : List ℕ) (at : ℕ) (angle : Bool) (r : Trivia) : Type 0 where
-  pub first-is : rest-of src (r .first) ≡ left src at angle
+  pub first-is : unread src (r .first) ≡ leaves-from src at angle
   pub passed : Passed src r

@@ -10,7 +10,7 @@ use Rattle.definition.specs.Text.{if_then_else_, Kind}
 use Rattle.definition.specs.Tree.{Leaf, leaves, stop}
 use Rattle.definition.specs.Parser.{Reader}
 use Rattle.definition.specs.Calls.{longest-source}
-use Rattle.theorems.specs.Left.{left}
+use Rattle.theorems.specs.LeavesFrom.{leaves-from}
 use Rattle.pre.specs.Table.{class-table}
 use Rattle.tree.specs.Machine.{sheet, leafs}
 use Rattle.tree.specs.declared.Pen.{Pen}
@@ -26,8 +26,8 @@ abbrev pub leaf-seen : List ℕ → Seen → Leaf
 leaf-seen src s = record { kind = s .kind; start = s .start; bytes = slice (s .start) (s .end) src }
 
 -- and those after it; none at the end.
-unfoldable pub rest-of : List ℕ → Seen → List Leaf
-rest-of src s = if eqb (s .kind) 0 then [] else leaf-seen src s ∷ left src (s .end) (s .angle)
+unfoldable pub unread : List ℕ → Seen → List Leaf
+unread src s = if eqb (s .kind) 0 then [] else leaf-seen src s ∷ leaves-from src (s .end) (s .angle)
 
 -- The leaf that is seen ends where it is said to end, and is not empty.
 unfoldable pub Held : List ℕ → Seen → Type 0
@@ -35,7 +35,7 @@ Held src s = (s .kind ≡ 0 → ⊥) → (stop (leaf-seen src s) ≡ s .end) × 
 
 -- What is seen from a place on: it starts there, and where nothing is left it ends there too, behind the whole source.
 pub record Sees (src : List ℕ) (at : ℕ) (angle : Bool) (s : Seen) : Type 0 where
-  pub rest : rest-of src s ≡ left src at angle
+  pub rest : unread src s ≡ leaves-from src at angle
   pub held : Held src s
   pub starts : s .start ≡ at
   pub over : s .kind ≡ 0 → (s .end ≡ at) × (length src ≤ at)
@@ -51,6 +51,6 @@ pub record Reading (src classes : List ℕ) (s : Seen) : Type 0 where
 
 -- A call that takes leaves as a reader does, without nodes or errors.
 pub record Takes (src : List ℕ) (p : Reader) (t : List ℕ) (r : Run) (t′ : List ℕ) (r′ : Run) : Type 0 where
-  pub tree : sheet t′ (r′ .pen) ≡ leafs (sheet t (r .pen)) (leaves (p (rest-of src (r .seen)) .tree))
-  pub rest : rest-of src (r′ .seen) ≡ p (rest-of src (r .seen)) .rest
+  pub tree : sheet t′ (r′ .pen) ≡ leafs (sheet t (r .pen)) (leaves (p (unread src (r .seen)) .tree))
+  pub rest : unread src (r′ .seen) ≡ p (unread src (r .seen)) .rest
   pub held : Held src (r′ .seen)

@@ -12,7 +12,7 @@ ghost use Prim.Native.Nat.{_≤_};
 ghost use lib.ListN.{length};
 ghost use Rattle.definition.specs.Calls.{longest-source};
 ghost use Rattle.definition.specs.Parser as reader;
-ghost use Rattle.theorems.specs.Left.{leaf-kind};
+ghost use Rattle.theorems.specs.LeavesFrom.{leaf-kind};
 ghost use Rattle.pre.specs.Table.{class-table};
 ghost use Rattle.tree.specs.Machine.{sheet, leafed};
 ghost use Rattle.parser.specs.Rest.{run-of, Sees, trivial, Reading, Takes};

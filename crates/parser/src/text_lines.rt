@@ -10,9 +10,9 @@ ghost use mathlib.Core.Bool.{true};
 ghost use Prim.Native.Nat.{_≤_, _<_};
 ghost use lib.ListN.{length, getD};
 ghost use Rattle.definition.specs.Calls.{longest-source};
-ghost use Rattle.theorems.specs.Left.{left};
-ghost use Rattle.pre.specs.Table.{class-table, entry};
-ghost use Rattle.parser.specs.Rest.{Sees, Reading, rest-of};
+ghost use Rattle.theorems.specs.LeavesFrom.{leaves-from};
+ghost use Rattle.pre.specs.Table.{class-table, class-number};
+ghost use Rattle.parser.specs.Rest.{Sees, Reading, unread};
 ghost use Rattle.parser.specs.Lines.{Alone, Single, Quick, Begins, Shown, Going, Lined};
 
 // Whether a character of class c is a token alone, whatever follows: [ ] ( ) { } ~ : ; , ?
@@ -58,7 +58,7 @@ fn unglued(c: u8, d: u8) -> bool
 
 // The token at a place that begins with punctuation of class c, where it is one character; of kind 0 where that is not seen at once.
 fn quick_punct(src: &[u8], classes: &[u8; 256], at: usize, c: u8) -> Token
-    requires { ⌜ (now classes ≡ class-table) × ((at < length (now src)) × (c ≡ entry (getD (now src) at 0))) ⌝ }
+    requires { ⌜ (now classes ≡ class-table) × ((at < length (now src)) × (c ≡ class-number (getD (now src) at 0))) ⌝ }
     ensures { λ r. ⌜ Quick (now (src .entry)) at r ⌝ }
 {
     if single(c) {
@@ -80,7 +80,7 @@ fn quick_punct(src: &[u8], classes: &[u8; 256], at: usize, c: u8) -> Token
 // The token at a place that begins with a character of class c, where it is seen at once: a word, blanks, a number or one character; of kind 0 where
 // it is another. It is no continuation, and does not change whether an angle string is expected.
 fn quick(src: &[u8], classes: &[u8; 256], at: usize, c: u8) -> Token
-    requires { ⌜ (now classes ≡ class-table) × ((at < length (now src)) × (c ≡ entry (getD (now src) at 0))) ⌝ }
+    requires { ⌜ (now classes ≡ class-table) × ((at < length (now src)) × (c ≡ class-number (getD (now src) at 0))) ⌝ }
     ensures { λ r. ⌜ Quick (now (src .entry)) at r ⌝ }
 {
     if c == Class::LETTER {
@@ -175,7 +175,7 @@ fn rest_of_lines(
     angle: bool,
 ) -> Run
     requires { ⌜ (now classes ≡ class-table) × (length (now src) ≤ longest-source) ⌝ }
-    ensures { λ r. ⌜ Lined (now (src .entry)) (left (now (src .entry)) at angle) (now (table .entry)) pen (now (table .exit)) r ⌝ }
+    ensures { λ r. ⌜ Lined (now (src .entry)) (leaves-from (now (src .entry)) at angle) (now (table .entry)) pen (now (table .exit)) r ⌝ }
 {
     let mut held = pen;
     let mut i = at;
@@ -205,7 +205,7 @@ fn rest_of_lines(
 // Takes a text line from a leaf on that is seen, and the lines behind it while they are seen to be text.
 pub fn text_lines(src: &[u8], classes: &[u8; 256], table: &mut [u32], run: Run) -> Run
     requires { ⌜ (Reading (now src) (now classes) (run .seen)) × (run .seen .kind ≡ 0 → ⊥) ⌝ }
-    ensures { λ r. ⌜ Lined (now (src .entry)) (rest-of (now (src .entry)) (run .seen)) (now (table .entry)) (run .pen) (now (table .exit)) r ⌝ }
+    ensures { λ r. ⌜ Lined (now (src .entry)) (unread (now (src .entry)) (run .seen)) (now (table .entry)) (run .pen) (now (table .exit)) r ⌝ }
 {
     let x = run.seen;
     let pen = crate::leaf(table, run.pen, x);

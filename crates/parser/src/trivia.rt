@@ -9,7 +9,7 @@ ghost use Rattle.definition.specs.Calls.{longest-source};
 ghost use Rattle.definition.specs.Parser.{while};
 ghost use Rattle.pre.specs.Table.{class-table};
 ghost use Rattle.tree.specs.Machine.{sheet, leafs};
-ghost use Rattle.parser.specs.Rest.{Reading, trivial, rest-of};
+ghost use Rattle.parser.specs.Rest.{Reading, trivial, unread};
 ghost use Rattle.parser.specs.Passed.{row-of, before, Passes, Behind};
 
 // A row of trivia: its first leaf and the leaf behind it. It is empty if both start at one place.
@@ -70,7 +70,7 @@ pub fn eat_trivia(
     stop: u32,
 ) -> Pen
     requires { ⌜ Reading (now src) (now classes) first ⌝ }
-    ensures { λ r. ⌜ sheet (now (table .exit)) r ≡ leafs (sheet (now (table .entry)) pen) (while (before stop) (rest-of (now (src .entry)) first)) ⌝ }
+    ensures { λ r. ⌜ sheet (now (table .exit)) r ≡ leafs (sheet (now (table .entry)) pen) (while (before stop) (unread (now (src .entry)) first)) ⌝ }
 {
     let mut held = pen;
     let mut x = first;

@@ -11,7 +11,7 @@ use Rattle.definition.specs.SyntaxKind.{Kind}
 use Rattle.definition.specs.Newline.{LF, CR, CRLF, char-more, letter, digit, newlines, newline, blanks, blank, class}
 use Rattle.definition.specs.Pre.{puncts}
 use Rattle.theorems.proofs.Lexing.Sorts.{find-low}
-use Rattle.pre.specs.Table.{Entry, punct, entry, entry-of}
+use Rattle.pre.specs.Table.{ClassNumber, punct, class-number, class-number-of}
 
 pub is-false : (t : Bool) → (t ≡ true → ⊥) → t ≡ false
 is-false true h = absurd (h refl)
@@ -81,22 +81,22 @@ punct-low b = find-low b puncts Kind.PERIOD (omega arith)
 
 -- What an entry says.
 pub record Says (b k : ℕ) : Type 0 where
-  pub letter-is : k ≡ Entry.LETTER → letter b ≡ true
-  pub low-is : k < Entry.NEWLINE → (letter b || digit b) ≡ true
-  pub digit-is : k ≡ Entry.DIGIT → digit b ≡ true
-  pub newline-is : k ≡ Entry.NEWLINE → newline b ≡ true
-  pub blank-is : k ≡ Entry.WS → blank b ≡ true
-  pub no-letter : (k ≡ Entry.LETTER → ⊥) → letter b ≡ false
-  pub no-digit : Entry.NEWLINE ≤ k → digit b ≡ false
+  pub letter-is : k ≡ ClassNumber.LETTER → letter b ≡ true
+  pub low-is : k < ClassNumber.NEWLINE → (letter b || digit b) ≡ true
+  pub digit-is : k ≡ ClassNumber.DIGIT → digit b ≡ true
+  pub newline-is : k ≡ ClassNumber.NEWLINE → newline b ≡ true
+  pub blank-is : k ≡ ClassNumber.WS → blank b ≡ true
+  pub no-letter : (k ≡ ClassNumber.LETTER → ⊥) → letter b ≡ false
+  pub no-digit : ClassNumber.NEWLINE ≤ k → digit b ≡ false
   pub punct-is : Kind.PERIOD ≤ k → k ≡ punct b
 
-pub says : (b k : ℕ) → k ≡ entry b → Says b k
-unfolding entry entry-of class
+pub says : (b k : ℕ) → k ≡ class-number b → Says b k
+unfolding class-number class-number-of class
 says b k e = go (letter b) (digit b) (newline b) (blank b) refl refl refl refl (punct-low b)
   where
     go : (l d n w : Bool) → letter b ≡ l → digit b ≡ d → newline b ≡ n → blank b ≡ w → Kind.PERIOD ≤ punct b → Says b k
     go true d n w p q r t u =
-        let z : k ≡ Entry.LETTER = e ∙ rw p in
+        let z : k ≡ ClassNumber.LETTER = e ∙ rw p in
         record {
           letter-is = λ h. p;
           low-is = λ h. rw p;
@@ -108,7 +108,7 @@ says b k e = go (letter b) (digit b) (newline b) (blank b) refl refl refl refl (
           punct-is = λ h. absurd (omega arith);
         }
     go false true n w p q r t u =
-        let z : k ≡ Entry.DIGIT = e ∙ rw (p, q) in
+        let z : k ≡ ClassNumber.DIGIT = e ∙ rw (p, q) in
         record {
           letter-is = λ h. absurd (omega arith);
           low-is = λ h. rw (p, q);
@@ -120,7 +120,7 @@ says b k e = go (letter b) (digit b) (newline b) (blank b) refl refl refl refl (
           punct-is = λ h. absurd (omega arith);
         }
     go false false true w p q r t u =
-        let z : k ≡ Entry.NEWLINE = e ∙ rw (p, q, r) in
+        let z : k ≡ ClassNumber.NEWLINE = e ∙ rw (p, q, r) in
         record {
           letter-is = λ h. absurd (omega arith);
           low-is = λ h. absurd (omega arith);
@@ -132,7 +132,7 @@ says b k e = go (letter b) (digit b) (newline b) (blank b) refl refl refl refl (
           punct-is = λ h. absurd (omega arith);
         }
     go false false false true p q r t u =
-        let z : k ≡ Entry.WS = e ∙ rw (p, q, r, t) in
+        let z : k ≡ ClassNumber.WS = e ∙ rw (p, q, r, t) in
         record {
           letter-is = λ h. absurd (omega arith);
           low-is = λ h. absurd (omega arith);
@@ -156,17 +156,17 @@ says b k e = go (letter b) (digit b) (newline b) (blank b) refl refl refl refl (
           punct-is = λ h. z;
         }
 
-module _ (b k : ℕ) (e : k ≡ entry b) where
-  pub no-newline : (k ≡ Entry.NEWLINE → ⊥) → newline b ≡ false
-  unfolding entry entry-of class
-  no-newline h = is-false (newline b) (λ p. h (e ∙ eqb-true (entry b) Entry.NEWLINE (of-row (λ x. eqb (entry x) Entry.NEWLINE) newlines b p refl)))
+module _ (b k : ℕ) (e : k ≡ class-number b) where
+  pub no-newline : (k ≡ ClassNumber.NEWLINE → ⊥) → newline b ≡ false
+  unfolding class-number class-number-of class
+  no-newline h = is-false (newline b) (λ p. h (e ∙ eqb-true (class-number b) ClassNumber.NEWLINE (of-row (λ x. eqb (class-number x) ClassNumber.NEWLINE) newlines b p refl)))
 
-  pub no-blank : (k ≡ Entry.WS → ⊥) → blank b ≡ false
-  unfolding entry entry-of class
-  no-blank h = is-false (blank b) (λ p. h (e ∙ eqb-true (entry b) Entry.WS (of-row (λ x. eqb (entry x) Entry.WS) blanks b p refl)))
+  pub no-blank : (k ≡ ClassNumber.WS → ⊥) → blank b ≡ false
+  unfolding class-number class-number-of class
+  no-blank h = is-false (blank b) (λ p. h (e ∙ eqb-true (class-number b) ClassNumber.WS (of-row (λ x. eqb (class-number x) ClassNumber.WS) blanks b p refl)))
 
   -- Letters, digits, blanks and ASCII punctuation are characters of one byte.
-  pub closed-word : k < Entry.NEWLINE → Closed b
+  pub closed-word : k < ClassNumber.NEWLINE → Closed b
   closed-word h = go (letter b) (digit b) refl refl (says b k e .low-is h)
     where
       go : (l d : Bool) → letter b ≡ l → digit b ≡ d → (l || d) ≡ true → Closed b
@@ -174,11 +174,11 @@ module _ (b k : ℕ) (e : k ≡ entry b) where
       go false true p q r = let w : Within (byte "0") (byte "9") b = digit-within b q in closed-by b (omega arith) (λ z. omega arith) (λ z. omega arith)
       go false false p q r = absurd (false≢true r)
 
-  pub closed-blank : k ≡ Entry.WS → Closed b
+  pub closed-blank : k ≡ ClassNumber.WS → Closed b
   closed-blank h = closed-is b b refl (of-row closed blanks b (says b k e .blank-is h) refl)
 
   pub closed-punct : Kind.PERIOD ≤ k → b < 192 → Closed b
-  unfolding entry entry-of class
+  unfolding class-number class-number-of class
   closed-punct h l = closed-by b l
-      (λ z. let y : k ≡ Entry.NEWLINE = e ∙ rw z in omega arith)
-      (λ z. let y : k ≡ Entry.NEWLINE = e ∙ rw z in omega arith)
+      (λ z. let y : k ≡ ClassNumber.NEWLINE = e ∙ rw z in omega arith)
+      (λ z. let y : k ≡ ClassNumber.NEWLINE = e ∙ rw z in omega arith)

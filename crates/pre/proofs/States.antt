@@ -10,7 +10,7 @@ use Rattle.definition.specs.Text.{List, one-of, byte}
 use Rattle.definition.specs.SyntaxKind.{Kind}
 use Rattle.definition.specs.Newline.{LF, CR, CRLF, letter, digit, newlines, newline, blanks, blank}
 use Rattle.definition.specs.Pre.{done, slash, ident, single-comment, whitespace, backslash, digits, alone, in-digits, begin, flag, more}
-use Rattle.pre.specs.Table.{Entry, punct, entry}
+use Rattle.pre.specs.Table.{ClassNumber, punct, class-number}
 use Rattle.pre.specs.Scan.{takes-point}
 use Rattle.theorems.proofs.Grammar.Clean.{or-left, or-right}
 use Rattle.pre.proofs.Classes.{Closed, closed-is, Within, letter-within, digit-within, letter-no-digit, every, of-row, Says, says, no-newline, no-blank}
@@ -35,9 +35,9 @@ sign-no-dot b e t = go (sign-of b e t)
     go (is-plus z) = rw z
     go (is-minus z) = rw z
 
-module _ (b k : ℕ) (c : k ≡ entry b) where
+module _ (b k : ℕ) (c : k ≡ class-number b) where
   -- Identifiers,
-  pub ident-goes : k < Entry.NEWLINE → more ident b ≡ some ident
+  pub ident-goes : k < ClassNumber.NEWLINE → more ident b ≡ some ident
   unfolding more
   ident-goes h = go (letter b) (digit b) refl refl (says b k c .low-is h)
     where
@@ -46,35 +46,35 @@ module _ (b k : ℕ) (c : k ≡ entry b) where
       go false true p q r = rw (p, q)
       go false false p q r = absurd (false≢true r)
 
-  pub ident-stops : Entry.NEWLINE ≤ k → (b ≡ byte "_" → ⊥) → (b ≡ byte "\\" → ⊥) → more ident b ≡ none
+  pub ident-stops : ClassNumber.NEWLINE ≤ k → (b ≡ byte "_" → ⊥) → (b ≡ byte "\\" → ⊥) → more ident b ≡ none
   unfolding more
   ident-stops h n m = rw (says b k c .no-letter (λ z. omega arith), says b k c .no-digit h, ne-eqb b (byte "_") n, ne-eqb b (byte "\\") m)
 
   -- blanks,
-  pub whitespace-goes : k ≡ Entry.WS → more whitespace b ≡ some whitespace
+  pub whitespace-goes : k ≡ ClassNumber.WS → more whitespace b ≡ some whitespace
   unfolding more
   whitespace-goes h = rw (says b k c .blank-is h)
 
-  pub whitespace-stops : (k ≡ Entry.WS → ⊥) → more whitespace b ≡ none
+  pub whitespace-stops : (k ≡ ClassNumber.WS → ⊥) → more whitespace b ≡ none
   unfolding more
   whitespace-stops h = rw (no-blank b k c h)
 
   -- comments to the end of the line,
-  pub single-stops : k ≡ Entry.NEWLINE → more single-comment b ≡ none
+  pub single-stops : k ≡ ClassNumber.NEWLINE → more single-comment b ≡ none
   unfolding more
   single-stops h = rw (says b k c .newline-is h)
 
-  pub single-goes : (k ≡ Entry.NEWLINE → ⊥) → (b ≡ byte "\\" → ⊥) → more single-comment b ≡ some single-comment
+  pub single-goes : (k ≡ ClassNumber.NEWLINE → ⊥) → (b ≡ byte "\\" → ⊥) → more single-comment b ≡ some single-comment
   unfolding more
   single-goes h n = rw (no-newline b k c h, ne-eqb b (byte "\\") n)
 
   -- and numbers.
   module _ (e d : Bool) where
-    pub digits-digit : k ≡ Entry.DIGIT → more (digits e d) b ≡ some (digits e d)
+    pub digits-digit : k ≡ ClassNumber.DIGIT → more (digits e d) b ≡ some (digits e d)
     unfolding more
     digits-digit h = rw (says b k c .digit-is h)
 
-    pub digits-letter : k ≡ Entry.LETTER → more (digits e d) b ≡ some (digits (eqb b (byte "e") || eqb b (byte "E")) d)
+    pub digits-letter : k ≡ ClassNumber.LETTER → more (digits e d) b ≡ some (digits (eqb b (byte "e") || eqb b (byte "E")) d)
     unfolding more
     digits-letter h =
         let l : letter b ≡ true = says b k c .letter-is h in
@@ -84,7 +84,7 @@ module _ (b k : ℕ) (c : k ≡ entry b) where
         let z : eqb b (byte "-") ≡ false = ne-eqb b (byte "-") (λ z. omega arith) in
         rw (letter-no-digit b l, x, and-false (not d), y, z, and-false e, l)
 
-    module _ (h : Entry.NEWLINE ≤ k) where
+    module _ (h : ClassNumber.NEWLINE ≤ k) where
       pub digits-take : takes-point b e d ≡ true → more (digits e d) b ≡ some (digits e (eqb b (byte ".") || d))
       unfolding more
       digits-take t = go (not d && eqb b (byte ".")) (e && (eqb b (byte "+") || eqb b (byte "-"))) refl refl t
@@ -142,12 +142,12 @@ unfolding begin
 begin-backslash true = refl
 begin-backslash false = refl
 
-module _ (b k : ℕ) (f : Bool) (c : k ≡ entry b) where
-  pub begin-letter : k ≡ Entry.LETTER → begin f b ≡ ident
+module _ (b k : ℕ) (f : Bool) (c : k ≡ class-number b) where
+  pub begin-letter : k ≡ ClassNumber.LETTER → begin f b ≡ ident
   unfolding begin
   begin-letter z = rw (says b k c .letter-is z)
 
-  pub begin-digit : k ≡ Entry.DIGIT → begin f b ≡ digits false false
+  pub begin-digit : k ≡ ClassNumber.DIGIT → begin f b ≡ digits false false
   unfolding begin
   begin-digit z =
       let w : Within (byte "0") (byte "9") b = digit-within b (says b k c .digit-is z) in
@@ -156,13 +156,13 @@ module _ (b k : ℕ) (f : Bool) (c : k ≡ entry b) where
   no-under : (xs : List ℕ) → one-of xs b ≡ true → every (λ x. not (eqb x (byte "_"))) xs ≡ true → eqb b (byte "_") ≡ false
   no-under xs p h = not-true _ (of-row (λ x. not (eqb x (byte "_"))) xs b p h)
 
-  pub begin-newline : k ≡ Entry.NEWLINE → begin f b ≡ done Kind.NEWLINE
+  pub begin-newline : k ≡ ClassNumber.NEWLINE → begin f b ≡ done Kind.NEWLINE
   unfolding begin
   begin-newline z =
       let s : Says b k = says b k c in
       rw (s .no-letter (λ y. omega arith), no-under newlines (s .newline-is z) refl, s .no-digit (omega arith), s .newline-is z)
 
-  pub begin-blank : k ≡ Entry.WS → begin f b ≡ whitespace
+  pub begin-blank : k ≡ ClassNumber.WS → begin f b ≡ whitespace
   unfolding begin
   begin-blank z =
       let s : Says b k = says b k c in
@@ -179,6 +179,6 @@ module _ (b k : ℕ) (f : Bool) (c : k ≡ entry b) where
       (rw (ne-eqb b _ (n .no-less), and-false f, ne-eqb b _ (n .no-backslash), ne-eqb b _ (n .no-slash)))
 
   -- The flag is kept by every byte but a newline, a quote and a `<`.
-  pub flag-kept : (k ≡ Entry.NEWLINE → ⊥) → (b ≡ byte "\"" → ⊥) → (b ≡ byte "<" → ⊥) → flag f b ≡ f
+  pub flag-kept : (k ≡ ClassNumber.NEWLINE → ⊥) → (b ≡ byte "\"" → ⊥) → (b ≡ byte "<" → ⊥) → flag f b ≡ f
   unfolding flag
   flag-kept h n m = rw (no-newline b k c h, ne-eqb b (byte "\"") n, ne-eqb b (byte "<") m) (and-true f)

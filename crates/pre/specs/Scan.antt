@@ -7,7 +7,7 @@ use lib.ListN.{length, drop, take, getD}
 use Rattle.definition.specs.Text.{if_then_else_, byte}
 use Rattle.definition.specs.Newline.{chars}
 use Rattle.definition.specs.Pre.{State, begin, flag}
-use Rattle.theorems.specs.Walk.{walk, named}
+use Rattle.theorems.specs.Walk.{walk, name-kind}
 use Rattle.text.specs.Newline.{newline-len}
 use Rattle.pre.specs.declared.token.Token as read
 use Rattle.pre.specs.declared.PreLexer.{PreLexer}
@@ -26,7 +26,7 @@ first l s = from (begin (l .angle) (getD s (l .at) 0)) (getD s (l .at) 0) (l .at
 -- The kind of the token where the pre-lexer stands, and the state behind it.
 unfoldable pub pre-step : PreLexer → List ℕ → PreStep
 pre-step l s = record {
-  kind = named (first l s .kind) (take (first l s .end - l .at) (drop (l .at) s));
+  kind = name-kind (first l s .kind) (take (first l s .end - l .at) (drop (l .at) s));
   next = record { at = first l s .end; angle = flag (l .angle) (getD s (l .at) 0) };
 }
 

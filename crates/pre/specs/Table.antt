@@ -10,19 +10,19 @@ unfoldable pub punct : ℕ → ℕ
 punct b = find b puncts Kind.PERIOD
 
 -- The numbers of the classes. Punctuation has none of its own: its entry is the character's kind, PERIOD or more.
-abbrev pub Entry : record { LETTER : ℕ; DIGIT : ℕ; NEWLINE : ℕ; WS : ℕ }
-Entry = record { LETTER = 0; DIGIT = 1; NEWLINE = 2; WS = 3 }
+abbrev pub ClassNumber : record { LETTER : ℕ; DIGIT : ℕ; NEWLINE : ℕ; WS : ℕ }
+ClassNumber = record { LETTER = 0; DIGIT = 1; NEWLINE = 2; WS = 3 }
 
-unfoldable pub entry-of : Class → ℕ → ℕ
-entry-of LETTER b = Entry.LETTER
-entry-of DIGIT b = Entry.DIGIT
-entry-of NEWLINE b = Entry.NEWLINE
-entry-of WS b = Entry.WS
-entry-of PUNCT b = punct b
+unfoldable pub class-number-of : Class → ℕ → ℕ
+class-number-of LETTER b = ClassNumber.LETTER
+class-number-of DIGIT b = ClassNumber.DIGIT
+class-number-of NEWLINE b = ClassNumber.NEWLINE
+class-number-of WS b = ClassNumber.WS
+class-number-of PUNCT b = punct b
 
 -- The entry of a byte.
-unfoldable pub entry : ℕ → ℕ
-entry b = entry-of (class b) b
+unfoldable pub class-number : ℕ → ℕ
+class-number b = class-number-of (class b) b
 
 -- f i, f (i + 1), .. : n values.
 abbrev pub values : (ℕ → ℕ) → ℕ → ℕ → List ℕ
@@ -31,4 +31,4 @@ values f i (suc n) = f i ∷ values f (suc i) n
 
 -- The entries of all bytes.
 unfoldable pub class-table : List ℕ
-class-table = values entry 0 256
+class-table = values class-number 0 256

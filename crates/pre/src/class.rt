@@ -1,7 +1,7 @@
 // Classes of characters by their first bytes (`NewlineTokenKind` of `newline.rs`, `from_punct` of `pre/token.rs`).
 use syntax_kind::kind::Kind;
 ghost use mathlib.Core.Path.{_≡_};
-ghost use Rattle.pre.specs.Table.{entry, class-table};
+ghost use Rattle.pre.specs.Table.{class-number, class-table};
 
 // The entries of the table. Punctuation has none of its own: its entry is the kind of the character as a token, PERIOD or more.
 pub struct Class {
@@ -287,7 +287,7 @@ pub fn class_table() -> [u8; 256]
 // The entry of a character by its first byte.
 pub fn class_of(table: &[u8; 256], b: u8) -> u8
     requires { ⌜ now table ≡ class-table ⌝ }
-    ensures { λ r. ⌜ r ≡ entry b ⌝ }
+    ensures { λ r. ⌜ r ≡ class-number b ⌝ }
 {
     table[b as usize]
 }

@@ -6,7 +6,7 @@ ghost use Prim.Native.Nat.{_≤_, _<_, _-_};
 ghost use lib.Dec.{eqb};
 ghost use lib.ListN.{length, drop, take};
 ghost use Rattle.definition.specs.Text.{byte};
-ghost use Rattle.theorems.specs.Walk.{named};
+ghost use Rattle.theorems.specs.Walk.{name-kind};
 
 // Whether a text that begins with b may be `defined`.
 fn may_spell(b: u8) -> bool
@@ -21,7 +21,7 @@ fn may_spell(b: u8) -> bool
 // The kind of a token, `defined` told from other identifiers.
 pub fn name(src: &[u8], at: usize, end: usize, kind: u8) -> u8
     requires { ⌜ (at < end) × (end ≤ length (now src)) ⌝ }
-    ensures { λ r. ⌜ r ≡ named kind (take (end - at) (drop at (now (src .entry)))) ⌝ }
+    ensures { λ r. ⌜ r ≡ name-kind kind (take (end - at) (drop at (now (src .entry)))) ⌝ }
 {
     if kind == Kind::IDENT_KW {
         if may_spell(src[at]) {

@@ -9,7 +9,7 @@ use native.Mathlib.Omega.{arith}
 use Rattle.definition.specs.Text.{same, if_then_else_, ascii}
 use Rattle.definition.specs.Unescaped.{unescaped}
 use Rattle.definition.specs.Tree.{Leaf}
-use Rattle.definition.specs.Syntax.{Directive, named, directives}
+use Rattle.definition.specs.Syntax.{Directive, directive-named, directives}
 use Rattle.definition.specs.Grammar as grammar
 use Rattle.definition.specs.Grammar.{words, rest-after}
 use Rattle.syntax.specs.Word.{Word, row-at, spellings, spelling, Finds}
@@ -42,12 +42,12 @@ unfolding row-at
 at-place true x xs o p e = refl
 at-place false x xs o p e = e
 
-named-row : (ds : List Directive) (s : List ℕ) → named ds s ≡ row-at ds (place (map (λ d. d .spelt) ds) s)
-unfolding named row-at place
+named-row : (ds : List Directive) (s : List ℕ) → directive-named ds s ≡ row-at ds (place (map (λ d. d .spelt) ds) s)
+unfolding directive-named row-at place
 named-row [] s = refl
 named-row (d ∷ ds) s = at-place (same (d .spelt) s) d ds _ _ (named-row ds s)
 
-rest-row : (ws : List grammar.Word) (s : List ℕ) → rest-after ws s ≡ row-at (map (λ w. w .rest) ws) (place (map (λ w. w .spelt) ws) s)
+rest-row : (ws : List grammar.WordRow) (s : List ℕ) → rest-after ws s ≡ row-at (map (λ w. w .rest) ws) (place (map (λ w. w .spelt) ws) s)
 unfolding rest-after row-at place
 rest-row [] s = refl
 rest-row (w ∷ ws) s = at-place (same (w .spelt) s) (w .rest) (map (λ x. x .rest) ws) _ _ (rest-row ws s)

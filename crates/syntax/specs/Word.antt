@@ -7,7 +7,7 @@ use mathlib.Core.Option.{Option, none, some}
 use Rattle.definition.specs.Text.{same}
 use Rattle.definition.specs.Unescaped.{unescaped}
 use Rattle.definition.specs.Tree.{Leaf}
-use Rattle.definition.specs.Syntax.{named, directives}
+use Rattle.definition.specs.Syntax.{directive-named, directives}
 use Rattle.definition.specs.Grammar.{words, rest-after}
 
 -- The places of the fourteen words, and the number of an unknown one.
@@ -33,5 +33,5 @@ spelt-as w text = elim (spelling w) [ none ↦ false | some s ↦ same (unescape
 -- w is the place of the text's directive, in the reader's table and in the grammar's; UNKNOWN has no row.
 pub record Finds (text : List ℕ) (w : ℕ) : Type 0 where
   pub most : w ≤ Word.UNKNOWN
-  pub row : (n : ℕ) (again : List Leaf → List Leaf) → named (directives n again) (unescaped text) ≡ row-at (directives n again) w
+  pub row : (n : ℕ) (again : List Leaf → List Leaf) → directive-named (directives n again) (unescaped text) ≡ row-at (directives n again) w
   pub rest : rest-after words (unescaped text) ≡ row-at (map (λ x. x .rest) words) w

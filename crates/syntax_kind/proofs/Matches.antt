@@ -29,12 +29,12 @@ none-of T a (k ∷ ks) n =
 -- The kinds on one side of the steps that pass a test, in their order.
 abbrev pub kinds : (ℕ → ℕ → ℕ) → (ℕ → ℕ → Bool) → List Glue → List ℕ
 kinds side test [] = []
-kinds side test (g ∷ gs) = elim (test (g .left) (g .right)) [ true ↦ side (g .left) (g .right) ∷ kinds side test gs | false ↦ kinds side test gs ]
+kinds side test (g ∷ gs) = elim (test (g .lhs) (g .rhs)) [ true ↦ side (g .lhs) (g .rhs) ∷ kinds side test gs | false ↦ kinds side test gs ]
 
 module _ (side : ℕ → ℕ → ℕ) (test : ℕ → ℕ → Bool) (gs : List Glue) where
   -- A step that passes the test has its kind in the list; all steps are so, by computing.
   abbrev listing : Glue → Bool
-  listing g = not (test (g .left) (g .right)) || listed (kinds side test gs) (side (g .left) (g .right))
+  listing g = not (test (g .lhs) (g .rhs)) || listed (kinds side test gs) (side (g .lhs) (g .rhs))
 
   -- So two kinds that would pass it, and of which the last arm knows that theirs is not in the list, do not glue.
   pub last-arm : every listing gs ≡ true → (a b : ℕ) → test a b ≡ true → None-of (Unit {0}) (side a b) (kinds side test gs) → glued gs a b ≡ none

@@ -1,7 +1,7 @@
 // Pasting two kinds (`SyntaxKind::paste`).
 use crate::kind::Kind;
 use crate::operators::glue;
-use text::refusal;
+use text::refusal::Refusal;
 ghost use mathlib.Core.Path.{_≡_};
 ghost use Rattle.definition.specs.SyntaxKind.{Kind as SyntaxKind};
 ghost use Rattle.definition.specs.Glue.{pasted-kind};
@@ -77,19 +77,19 @@ pub fn paste(lhs: u32, rhs: u32) -> Pasted
 {
     if no_kind(lhs) {
         return Pasted {
-            refusal: refusal::NO_KIND,
+            refusal: Refusal::KIND,
             kind: 0,
         };
     }
     if no_kind(rhs) {
         return Pasted {
-            refusal: refusal::NO_KIND,
+            refusal: Refusal::KIND,
             kind: 0,
         };
     }
     let kind = pasted_kind((lhs % 256) as u8, (rhs % 256) as u8);
     Pasted {
-        refusal: refusal::NONE,
+        refusal: Refusal::NONE,
         kind: kind as u32,
     }
 }

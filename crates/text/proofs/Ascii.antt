@@ -10,8 +10,8 @@ use borrow.Author.Tests.{leb-true, le-leb, lt-leb, ltb-true, lt-ltb, eqb-true, e
 use lib.Dec.{eqb, leb, ltb}
 use lib.ListN.{length, drop, getD}
 use Rattle.definition.specs.Text.{if_then_else_, some}
-use Rattle.definition.specs.Utf8.{forms, follow, left}
-use Rattle.text.specs.Utf8.{High, low-from, eight-low, starts, passes, wants, after}
+use Rattle.definition.specs.Utf8.{char-forms, follow, left}
+use Rattle.text.specs.Utf8.{High, low-from, eight-low, starts, passes, wants, wanted-after}
 use Rattle.text.specs.declared.utf8.State.{State}
 use Rattle.text.specs.declared.utf8.State.the-variants.{Start, Tail1, Tail2, Tail3, AfterE0, AfterED, AfterF0, AfterF4}
 use Rattle.text.proofs.Utf8s.{first-in, follow-range, left-more}
@@ -58,7 +58,7 @@ module _ (s : List ℕ) (at : ℕ) where
 
 -- ASCII is one byte a character.
 one-low : (src : List ℕ) (i : ℕ) → i < length src → getD src i 0 < 128 → left [] (drop i src) ≡ left [] (drop (i + 1) src)
-unfolding after follow-range forms
+unfolding wanted-after follow-range char-forms
 one-low src i h l = left-more src [] i h ∙ rw (← first-in 0 0x7F {r = some []} {b = getD src i 0} refl (omega arith) (omega arith)) refl
 
 lows : (src : List ℕ) (n i : ℕ) → i + n ≤ length src → low-from n i src ≡ true → left [] (drop i src) ≡ left [] (drop (i + n) src)

@@ -11,11 +11,11 @@ use lib.ListN.{length, drop, getD, drop-of-length-le}
 use lib.Seq.{drop-cons}
 use borrow.Author.Tests.{le-leb, lt-leb, leb-true, ltb-true}
 use Rattle.definition.specs.Text.{if_then_else_}
-use Rattle.definition.specs.Utf8.{Span, Form, within, forms, follow, left, Left, broken}
-use Rattle.text.specs.Utf8.{after}
+use Rattle.definition.specs.Utf8.{Span, CharForm, within, char-forms, follow, left, Left, broken}
+use Rattle.text.specs.Utf8.{wanted-after}
 
 -- What follows each first byte of a range, where the forms say the same of all of it.
-unfoldable pub follow-range : List Form → ℕ → ℕ → Option (Option (List Span))
+unfoldable pub follow-range : List CharForm → ℕ → ℕ → Option (Option (List Span))
 follow-range [] low high = some none
 follow-range (f ∷ fs) low high =
     if leb (f .first .low) low && leb high (f .first .high) then some (some (f .later)) else
@@ -32,7 +32,7 @@ module _ (low high b : ℕ) (l : low ≤ b) (h : b ≤ high) where
   within-out s false true p q e = rw (lt-leb b (s .high) (omega (arith, ltb-true (s .high) low q))) (and-false (leb (s .low) b))
   within-out s false false p q e = absurd (false≢true e)
 
-  follow-in : (fs : List Form) (r : Option (List Span)) → follow-range fs low high ≡ some r → follow fs b ≡ r
+  follow-in : (fs : List CharForm) (r : Option (List Span)) → follow-range fs low high ≡ some r → follow fs b ≡ r
   unfolding follow-range follow
   follow-in [] r e = cc
   follow-in (f ∷ fs) r e =
@@ -53,17 +53,17 @@ module _ (low high b : ℕ) (l : low ≤ b) (h : b ≤ high) where
       go false p true q e ih = rw (within-out (f .first) _ _ refl refl q) (ih e)
       go false p false q e ih = absurd (let z : _≡_ {A = ℕ} 0 1 = cc in omega arith)
 
-pub first-in : (low high : ℕ) {r : Option (List Span)} {b : ℕ} → follow-range forms low high ≡ some r → low ≤ b → b ≤ high → r ≡ follow forms b
-first-in low high {r} {b} e l h = sym (follow-in low high b l h forms r e)
+pub first-in : (low high : ℕ) {r : Option (List Span)} {b : ℕ} → follow-range char-forms low high ≡ some r → low ≤ b → b ≤ high → r ≡ follow char-forms b
+first-in low high {r} {b} e l h = sym (follow-in low high b l h char-forms r e)
 
 -- What is left, by what is wanted behind the first byte.
 abbrev pub go-on : Option (List Span) → List ℕ → Left
 go-on (some ss) bs = left ss bs
 go-on none bs = broken
 
-left-cons : (ss : List Span) (b : ℕ) (bs : List ℕ) → left ss (b ∷ bs) ≡ go-on (after ss b) bs
-unfolding left after
-left-cons [] b bs = by-follow (follow forms b)
+left-cons : (ss : List Span) (b : ℕ) (bs : List ℕ) → left ss (b ∷ bs) ≡ go-on (wanted-after ss b) bs
+unfolding left wanted-after
+left-cons [] b bs = by-follow (follow char-forms b)
   where
     by-follow : (o : Option (List Span)) → elim o as (λ (o : Option (List Span)). Left) [ some ss ↦ left ss bs | none ↦ broken ] ≡ go-on o bs
     by-follow (some ss) = refl
@@ -75,7 +75,7 @@ left-cons (s ∷ ss) b bs = by-test (within s b)
     by-test false = refl
 
 module _ (src : List ℕ) (ss : List Span) (i : ℕ) where
-  pub left-more : i < length src → left ss (drop i src) ≡ go-on (after ss (getD src i 0)) (drop (i + 1) src)
+  pub left-more : i < length src → left ss (drop i src) ≡ go-on (wanted-after ss (getD src i 0)) (drop (i + 1) src)
   left-more h = rw (add-one, drop-cons src i 0) (left-cons ss (getD src i 0) (drop (suc i) src))
 
   pub left-end : length src ≤ i → left ss (drop i src) ≡ left ss []

@@ -7,7 +7,7 @@ use mathlib.Core.Option.{Option, none, some}
 use lib.Dec.{leb, ltb}
 use lib.ListN.{length, getD}
 use Rattle.definition.specs.Text.{if_then_else_}
-use Rattle.definition.specs.Utf8.{Span, _⋯_, within, forms, follow, nothing, cut, broken}
+use Rattle.definition.specs.Utf8.{Span, _⋯_, within, char-forms, follow, nothing, cut, broken}
 use Rattle.definition.specs.Utf8 as definition
 use Rattle.text.specs.declared.utf8.State.{State}
 use Rattle.text.specs.declared.utf8.State.the-variants.{Start, Tail1, Tail2, Tail3, AfterE0, AfterED, AfterF0, AfterF4}
@@ -30,14 +30,14 @@ wants AfterED = 0x80 ⋯ 0x9F ∷ tail ∷ []
 wants AfterF0 = 0x90 ⋯ 0xBF ∷ tail ∷ tail ∷ []
 wants AfterF4 = 0x80 ⋯ 0x8F ∷ tail ∷ tail ∷ []
 
-abbrev pub wanted : Next → Option (List Span)
-wanted (To s) = some (wants s)
-wanted Unwanted = none
+abbrev pub next-wants : Next → Option (List Span)
+next-wants (To s) = some (wants s)
+next-wants Unwanted = none
 
 -- The bytes that are still wanted behind one byte more; none: that byte is not wanted.
-unfoldable pub after : List Span → ℕ → Option (List Span)
-after [] b = follow forms b
-after (s ∷ ss) b = if within s b then some ss else none
+unfoldable pub wanted-after : List Span → ℕ → Option (List Span)
+wanted-after [] b = follow char-forms b
+wanted-after (s ∷ ss) b = if within s b then some ss else none
 
 -- The answer in the definition's words.
 abbrev pub told : Left → definition.Left

@@ -1,20 +1,27 @@
-// The refusal numbers, in checking order (01).
-pub const NONE: u32 = 0;
+// The refusal numbers, in checking order (01), by the names of the definition.
+pub struct Refusal {
+    pub number: u32,
+}
 
-pub const TOO_LONG: u32 = 1;
+impl Refusal {
+    pub const NONE: u32 = 0;
 
-pub const NOT_UTF8: u32 = 2;
+    pub const LENGTH: u32 = 1;
 
-pub const TOO_MANY_CONCATS: u32 = 3;
-// The entry or the token table.
-pub const SHORT_ENTRIES: u32 = 4;
+    pub const UTF8: u32 = 2;
 
-pub const SHORT_ERRORS: u32 = 5;
+    pub const CONCATS: u32 = 3;
 
-pub const SHORT_LINES: u32 = 6;
+    // The entry or the token table.
+    pub const ENTRIES: u32 = 4;
 
-pub const NO_LINE_TABLE: u32 = 7;
+    pub const ERRORS: u32 = 5;
 
-pub const SHORT_OUTPUT: u32 = 8;
+    pub const LINES: u32 = 6;
 
-pub const NO_KIND: u32 = 9;
+    pub const LOOKUP: u32 = 7;
+
+    pub const OUTPUT: u32 = 8;
+
+    pub const KIND: u32 = 9;
+}

@@ -1,5 +1,5 @@
 // The refusals that every call on a source shares: it is too long, or it is not UTF-8.
-use crate::refusal;
+use crate::refusal::Refusal;
 use crate::utf8::Left;
 ghost use mathlib.Core.Path.{_≡_};
 ghost use Rattle.definition.specs.Calls.{refusal, source-checks};
@@ -11,11 +11,11 @@ pub fn refused(src: &[u8]) -> u32
     ensures { λ r. ⌜ r ≡ refusal (source-checks (now (src .entry))) ⌝ }
 {
     if LONGEST < src.len() {
-        return refusal::TOO_LONG;
+        return Refusal::LENGTH;
     }
     match crate::utf8::check(src) {
-        Left::Nothing => refusal::NONE,
-        Left::Cut => refusal::NOT_UTF8,
-        Left::Broken => refusal::NOT_UTF8,
+        Left::Nothing => Refusal::NONE,
+        Left::Cut => Refusal::UTF8,
+        Left::Broken => Refusal::UTF8,
     }
 }

@@ -2,8 +2,8 @@
 ghost use mathlib.Core.Path.{_≡_};
 ghost use mathlib.Core.List.{[]};
 ghost use Rattle.definition.specs.Text.{if_then_else_, none, some};
-ghost use Rattle.definition.specs.Utf8.{_⋯_, within, forms, follow, left};
-ghost use Rattle.text.specs.Utf8.{wants, wanted, after, told, High, eight-low, starts, passes};
+ghost use Rattle.definition.specs.Utf8.{_⋯_, within, char-forms, follow, left};
+ghost use Rattle.text.specs.Utf8.{wants, next-wants, wanted-after, told, High, eight-low, starts, passes};
 
 // What is left of a source when whole characters are taken off its front.
 pub enum Left {
@@ -35,7 +35,7 @@ enum Next {
 
 // The first byte of a character.
 fn first(b: u8) -> Next
-    ensures { λ r. ⌜ wanted r ≡ follow forms b ⌝ }
+    ensures { λ r. ⌜ next-wants r ≡ follow char-forms b ⌝ }
 {
     match b {
         0x00..=0x7F => Next::To(State::Start),
@@ -53,7 +53,7 @@ fn first(b: u8) -> Next
 
 // A later byte, from low to high, behind which s is the state.
 fn later(low: u8, high: u8, b: u8, s: State) -> Next
-    ensures { λ r. ⌜ wanted r ≡ (if within (low ⋯ high) b then some (wants s) else none) ⌝ }
+    ensures { λ r. ⌜ next-wants r ≡ (if within (low ⋯ high) b then some (wants s) else none) ⌝ }
 {
     if low <= b {
         if b <= high {
@@ -66,7 +66,7 @@ fn later(low: u8, high: u8, b: u8, s: State) -> Next
 
 // One byte more in a state.
 fn step(s: State, b: u8) -> Next
-    ensures { λ r. ⌜ wanted r ≡ after (wants s) b ⌝ }
+    ensures { λ r. ⌜ next-wants r ≡ wanted-after (wants s) b ⌝ }
 {
     match s {
         State::Start => first(b),

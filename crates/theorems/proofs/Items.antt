@@ -11,9 +11,9 @@ use Rattle.definition.specs.Tree.{Leaf, long, Forest, leaf, row, _▹_, bytes, 
 use Rattle.definition.specs.Parser.{is, trivia, inline, while, after, peek, Got, Reader, _then_, wrap, skip, skip-trivia, nothing, bump}
 use Rattle.definition.specs.Syntax.{Line, control-line, hash-item, item, file, relexed, parse}
 use Rattle.theorems.specs.Placed.{Placed}
-use Rattle.theorems.specs.Left.{left}
+use Rattle.theorems.specs.LeavesFrom.{leaves-from}
 use Rattle.theorems.specs.Items.{items}
-use Rattle.theorems.proofs.Left.{left-bytes, parse-left}
+use Rattle.theorems.proofs.LeavesFrom.{leaves-bytes, parse-from}
 use Rattle.theorems.proofs.Tiling.Leaves.{leaves-▹, bytes-append, after-yes, after-stop, while-after}
 use Rattle.theorems.proofs.Tiling.Steady.{Steady-at, steady-then, steady-trivia, steady-skip, steady-bump}
 use Rattle.theorems.proofs.Tiling.Tiles.{Recut, Tiles}
@@ -142,6 +142,6 @@ pub items-none : (n : ℕ) (again : List Leaf → List Leaf) → items n again [
 items-none n again = file-none n again _
 
 -- Reading a source is reading its items, under ROOT.
-pub parse-items : (src : List ℕ) → parse src ≡ wrap Kind.ROOT (items (length src) relexed) (left src 0 false)
+pub parse-items : (src : List ℕ) → parse src ≡ wrap Kind.ROOT (items (length src) relexed) (leaves-from src 0 false)
 unfolding wrap
-parse-items src = parse-left src ∙ ap (λ f. wrap Kind.ROOT (file (length src) relexed f) (left src 0 false)) (ap length (sym (left-bytes src 0 false)))
+parse-items src = parse-from src ∙ ap (λ f. wrap Kind.ROOT (file (length src) relexed f) (leaves-from src 0 false)) (ap length (sym (leaves-bytes src 0 false)))

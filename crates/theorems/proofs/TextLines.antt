@@ -5,7 +5,7 @@ use mathlib.Core.Path.{_≡_, refl, ap, sym, _∙_}
 use mathlib.Core.Bool.{Bool, true, false, not}
 use mathlib.Core.List.{List, [], _∷_, _++_}
 use Rattle.definition.specs.Tree.{Leaf, Forest, nil, leaf, node, row, _▹_}
-use Rattle.definition.specs.Parser.{trivia, newline, inline, while, after, peek, Got, push, _then_, skip, skip-trivia, nothing, bump}
+use Rattle.definition.specs.Parser.{trivia, newline-leaf, inline, while, after, peek, Got, push, _then_, skip, skip-trivia, nothing, bump}
 use Rattle.definition.specs.Syntax.{item, file}
 use Rattle.theorems.specs.TextLines.{Text, line-file, push-row, Lines}
 use Rattle.theorems.proofs.Grammar.Clean.{trivia-inline}
@@ -35,7 +35,7 @@ module _ (n : ℕ) (again : List Leaf → List Leaf) where
     unfolding line-file _then_ skip row _▹_
     line-inline f e = rw (while-yes inline t ts e, after-yes inline t ts e)
 
-    line-newline : (f : ℕ) → newline t ≡ true → line-file n again f (t ∷ ts) ≡ push t (file n again f ts)
+    line-newline : (f : ℕ) → newline-leaf t ≡ true → line-file n again f (t ∷ ts) ≡ push t (file n again f ts)
     unfolding line-file _then_ skip row _▹_ bump peek
     line-newline f e = let i : inline t ≡ false = ap not e in rw (while-stop inline (t ∷ ts) i, after-stop inline (t ∷ ts) i)
 
@@ -73,13 +73,13 @@ lines-end = record { joins = refl; more = 0; reads = λ n again f. rw (zero-add 
 
 module _ (t : Leaf) (ts : List Leaf) where
   -- The line's NEWLINE, and nothing more.
-  pub lines-stop : newline t ≡ true → Lines (t ∷ []) (t ∷ ts) ts
+  pub lines-stop : newline-leaf t ≡ true → Lines (t ∷ []) (t ∷ ts) ts
   unfolding row _▹_
   lines-stop e = record { joins = refl; more = 0; reads = λ n again f. rw (zero-add f) (line-newline n again t ts f e) }
 
   -- A leaf of the line, or its NEWLINE before a line that begins no directive.
   module _ (us vs : List Leaf) (l : Lines us ts vs) where
-    pub lines-inline : newline t ≡ false → Lines (t ∷ us) (t ∷ ts) vs
+    pub lines-inline : newline-leaf t ≡ false → Lines (t ∷ us) (t ∷ ts) vs
     unfolding row _▹_
     lines-inline e = record {
       joins = ap (λ x. t ∷ x) (l .joins);
@@ -87,7 +87,7 @@ module _ (t : Leaf) (ts : List Leaf) where
       reads = λ n again f. line-inline n again t ts (l .more + f) (ap not e) ∙ ap (push t) (l .reads n again f);
     }
 
-    pub lines-newline : newline t ≡ true → Text ts → Lines (t ∷ us) (t ∷ ts) vs
+    pub lines-newline : newline-leaf t ≡ true → Text ts → Lines (t ∷ us) (t ∷ ts) vs
     unfolding row _▹_
     lines-newline e h = record {
       joins = ap (λ x. t ∷ x) (l .joins);

@@ -29,8 +29,8 @@ walk q c (b ∷ bs) = elim (char-more c b) [
 ]
 
 -- The kind of a pre-token with these bytes: DEFINED where an identifier, unescaped, is `defined`.
-unfoldable pub named : ℕ → List ℕ → ℕ
-named k xs = if eqb k Kind.IDENT_KW && same (unescaped xs) defined then Kind.DEFINED else k
+unfoldable pub name-kind : ℕ → List ℕ → ℕ
+name-kind k xs = if eqb k Kind.IDENT_KW && same (unescaped xs) defined then Kind.DEFINED else k
 
 -- The pre-tokens of a source as tokens, before they are glued.
 unfoldable pub pre-tokens : Bool → List ℕ → List Token
@@ -40,4 +40,4 @@ pre-tokens f bs = map (flat pre-kind) (pres f (chars bs))
 unfoldable pub pre-token : Bool → ℕ → List ℕ → Token
 pre-token f b bs =
     let w : Walk = walk (begin f b) b bs in
-    record { kind = named (w .kind) (b ∷ take (w .long) bs); head = b; tail = take (w .long) bs }
+    record { kind = name-kind (w .kind) (b ∷ take (w .long) bs); head = b; tail = take (w .long) bs }

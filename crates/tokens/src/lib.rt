@@ -4,7 +4,7 @@ use glue::Next;
 use pre::PreLexer;
 use pre::class;
 use text::Counted;
-use text::refusal;
+use text::refusal::Refusal;
 use text::row::FAR;
 use text::row::put_row;
 use text::source;
@@ -62,7 +62,7 @@ pub fn list(src: &[u8], tokens: &mut [u32]) -> Counted
     ensures { λ r. ⌜ Fills (listing-tokens (now (src .entry)) (length (now (tokens .entry)))) r (now (tokens .exit)) ⌝ }
 {
     let refused = source::refused(src);
-    if refused != refusal::NONE {
+    if refused != Refusal::NONE {
         table::clear(tokens);
         return Counted {
             refusal: refused,
@@ -73,13 +73,13 @@ pub fn list(src: &[u8], tokens: &mut [u32]) -> Counted
     if n == FAR {
         table::clear(tokens);
         return Counted {
-            refusal: refusal::SHORT_ENTRIES,
+            refusal: Refusal::ENTRIES,
             count: 0,
         };
     }
     table::clear(&mut tokens[n..]);
     Counted {
-        refusal: refusal::NONE,
+        refusal: Refusal::NONE,
         count: (n / WIDTH) as u32,
     }
 }

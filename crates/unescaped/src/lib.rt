@@ -1,7 +1,7 @@
 // Unescaping a text (unescaped.rs): each backslash is dropped with the one newline after it, and all else is kept.
 use text::Counted;
 use text::newline;
-use text::refusal;
+use text::refusal::Refusal;
 use text::source;
 use text::table;
 ghost use mathlib.Core.Path.{_≡_};
@@ -78,7 +78,7 @@ pub fn unescape(text: &[u8], output: &mut [u8]) -> Counted
 {
     table::clear_bytes(output);
     let refused = source::refused(text);
-    if refused != refusal::NONE {
+    if refused != Refusal::NONE {
         return Counted {
             refusal: refused,
             count: 0,
@@ -88,12 +88,12 @@ pub fn unescape(text: &[u8], output: &mut [u8]) -> Counted
     if output.len() < n {
         table::clear_bytes(output);
         return Counted {
-            refusal: refusal::SHORT_OUTPUT,
+            refusal: Refusal::OUTPUT,
             count: 0,
         };
     }
     Counted {
-        refusal: refusal::NONE,
+        refusal: Refusal::NONE,
         count: n as u32,
     }
 }

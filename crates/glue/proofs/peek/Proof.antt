@@ -8,7 +8,7 @@ use Rattle.definition.specs.SyntaxKind.{Kind}
 use Rattle.theorems.specs.Step.{glued-kind}
 use Rattle.theorems.proofs.Lexing.Glues.{other-none, none-kind}
 use Rattle.text.proofs.Cases.{cases}
-use Rattle.pre.specs.Table.{entry}
+use Rattle.pre.specs.Table.{class-number}
 use Rattle.glue.specs.Next.{peeked}
 use Rattle.glue.proofs.peek.Statement.{statement}
 use Rattle.glue.proofs.peek.Tie as tie
@@ -18,7 +18,7 @@ module _ (k b : ℕ) (g t : Bool) (e : t ≡ (g && eqb b (byte "<"))) where
   unfolding peeked
   string z = rw (← e, z)
 
-  module _ (d : ℕ) (z : t ≡ false) (p : d ≡ entry b) where
+  module _ (d : ℕ) (z : t ≡ false) (p : d ≡ class-number b) where
     asked : (x r : ℕ) → r ≡ glued-kind k x → d ≡ x → r ≡ peeked k b g
     unfolding peeked
     asked x r q n = rw (← e, z, ← p, n) q

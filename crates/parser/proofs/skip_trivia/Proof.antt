@@ -2,7 +2,7 @@
 use lib.ListN.{length}
 use Rattle.definition.specs.Parser.{trivia}
 use Rattle.text.proofs.Cases.{cases}
-use Rattle.parser.specs.Rest.{rest-of}
+use Rattle.parser.specs.Rest.{unread}
 use Rattle.parser.proofs.Taking.{Writing, write-start, write-long, skip-more, skip-fewer, skip-done}
 use Rattle.parser.proofs.skip_trivia.Statement.{statement}
 use Rattle.parser.proofs.skip_trivia.Tie as tie
@@ -11,7 +11,7 @@ abbrev Inv-loop : tie.InvT-loop
 Inv-loop src classes table₀ held₀ table held = Writing src trivia table₀ (held₀ .pen) (held₀ .seen) table (held .pen) (held .seen)
 
 abbrev μ-loop : tie.MeasureT-loop
-μ-loop src classes table₀ held₀ table held = length (rest-of src (held .seen))
+μ-loop src classes table₀ held₀ table held = length (unread src (held .seen))
 
 pub skip-trivia-spec : {M : Type 1} → statement M
 skip-trivia-spec = tie.close (tie.spec

@@ -7,7 +7,7 @@ use borrow.Author.Tests.{ne-eqb}
 use Rattle.definition.specs.Text.{byte}
 use Rattle.definition.specs.Pre.{flag}
 use Rattle.text.proofs.Cases.{cases}
-use Rattle.pre.specs.Table.{Entry, entry}
+use Rattle.pre.specs.Table.{ClassNumber, class-number}
 use Rattle.pre.proofs.Classes.{says, no-newline}
 use Rattle.pre.proofs.keeps.Statement.{statement}
 use Rattle.pre.proofs.keeps.Tie as tie
@@ -22,12 +22,12 @@ module _ (f : Bool) (b : ℕ) where
     unfolding flag
     quote p = rw (e, p)
 
-    module _ (k : ℕ) (c : k ≡ entry b) where
-      line : k ≡ Entry.NEWLINE → false ≡ flag f b
+    module _ (k : ℕ) (c : k ≡ class-number b) where
+      line : k ≡ ClassNumber.NEWLINE → false ≡ flag f b
       unfolding flag
       line z = rw (e, says b k c .newline-is z)
 
-      less : (k ≡ Entry.NEWLINE → ⊥) → (b ≡ byte "\"" → ⊥) → not (eqb b (byte "<")) ≡ flag f b
+      less : (k ≡ ClassNumber.NEWLINE → ⊥) → (b ≡ byte "\"" → ⊥) → not (eqb b (byte "<")) ≡ flag f b
       unfolding flag
       less z n = rw (e, no-newline b k c z, ne-eqb b (byte "\"") n)
 

@@ -13,7 +13,7 @@ use Rattle.definition.specs.Pre.{State, done, ident, whitespace, digits, begin}
 use Rattle.text.specs.Newline.{newline-len}
 use Rattle.text.proofs.Newlines as newlines
 use Rattle.text.proofs.Cases.{cases}
-use Rattle.pre.specs.Table.{Entry, entry}
+use Rattle.pre.specs.Table.{ClassNumber, class-number}
 use Rattle.pre.specs.Scan.{from}
 use Rattle.pre.specs.declared.token.Token.{Token}
 use Rattle.pre.proofs.Classes.{Closed, says, closed-word, closed-blank}
@@ -23,23 +23,23 @@ use Rattle.pre.proofs.Scans.{newline-fits}
 use Rattle.pre.proofs.token_at.Statement.{statement}
 use Rattle.pre.proofs.token_at.Tie as tie
 
-module _ (s : List ℕ) (at k : ℕ) (f : Bool) (h : at < length s) (c : k ≡ entry (getD s at 0)) where
+module _ (s : List ℕ) (at k : ℕ) (f : Bool) (h : at < length s) (c : k ≡ class-number (getD s at 0)) where
   abbrev Is : Token → Type 0
   Is r = r ≡ from (begin f (getD s at 0)) (getD s at 0) (at + 1) s
 
   by : (q : State) (r : Token) → r ≡ from q 0 (at + 1) s → Closed (getD s at 0) → begin f (getD s at 0) ≡ q → Is r
   by q r e x g = rw g (e ∙ sym (shut q (getD s at 0) (at + 1) s x))
 
-  letter : (r : Token) → k ≡ Entry.LETTER → r ≡ from ident 0 (at + 1) s → Is r
+  letter : (r : Token) → k ≡ ClassNumber.LETTER → r ≡ from ident 0 (at + 1) s → Is r
   letter r z e = by ident r e (closed-word _ k c (omega arith)) (begin-letter _ k f c z)
 
-  digit : (r : Token) → k ≡ Entry.DIGIT → r ≡ from (digits false false) 0 (at + 1) s → Is r
+  digit : (r : Token) → k ≡ ClassNumber.DIGIT → r ≡ from (digits false false) 0 (at + 1) s → Is r
   digit r z e = by (digits false false) r e (closed-word _ k c (omega arith)) (begin-digit _ k f c z)
 
-  blank : (r : Token) → k ≡ Entry.WS → r ≡ from whitespace 0 (at + 1) s → Is r
+  blank : (r : Token) → k ≡ ClassNumber.WS → r ≡ from whitespace 0 (at + 1) s → Is r
   blank r z e = by whitespace r e (closed-blank _ k c z) (begin-blank _ k f c z)
 
-  line : (w : ℕ) → k ≡ Entry.NEWLINE → w ≡ newline-len (chars (drop at s)) → Is (token Kind.NEWLINE (at + w))
+  line : (w : ℕ) → k ≡ ClassNumber.NEWLINE → w ≡ newline-len (chars (drop at s)) → Is (token Kind.NEWLINE (at + w))
   line w z e = rw (begin-newline _ k f c z) (sym (behind-newline (done Kind.NEWLINE) at s w h e some ∙ done-is Kind.NEWLINE (at + w) s))
     where
       some : w ≡ 0 → ⊥

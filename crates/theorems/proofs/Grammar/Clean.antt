@@ -6,7 +6,7 @@ use mathlib.Core.List.{List, [], _∷_, _++_, cons-ne-nil}
 use borrow.Author.Tests.{eqb-true, not-true}
 use Rattle.definition.specs.Tree.{Leaf}
 use Rattle.definition.specs.Error.{Err}
-use Rattle.definition.specs.Parser.{is, trivia, newline, inline, after, peek, Got, Reader, _then_, skip, skip-trivia, bump}
+use Rattle.definition.specs.Parser.{is, trivia, newline-leaf, inline, after, peek, Got, Reader, _then_, skip, skip-trivia, bump}
 use Rattle.definition.specs.Grammar.{Many, no-more, one-more, t*}
 
 -- A reading with no error that leaves R, and a reader that reads L so.
@@ -41,9 +41,9 @@ pub of-kind : {k : ℕ} (t : Leaf) → is k t ≡ true → t .kind ≡ k
 of-kind {k} t e = eqb-true (t .kind) k e
 
 pub trivia-inline : (t : Leaf) → trivia t ≡ true → inline t ≡ true
-trivia-inline t e = go (newline t) refl
+trivia-inline t e = go (newline-leaf t) refl
   where
-    go : (b : Bool) → newline t ≡ b → inline t ≡ true
+    go : (b : Bool) → newline-leaf t ≡ b → inline t ≡ true
     go true q = absurd (true≢false (sym (rw (of-kind t q) at e)))
     go false q = ap not q
 

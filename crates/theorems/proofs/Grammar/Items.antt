@@ -11,7 +11,7 @@ use lib.ListN.{length}
 use Rattle.definition.specs.Text.{if_then_else_}
 use Rattle.definition.specs.SyntaxKind.{Kind}
 use Rattle.definition.specs.Tree.{Leaf}
-use Rattle.definition.specs.Parser.{is, trivia, newline, inline, after, peek, Reader, _then_, skip, skip-trivia, nothing, bump}
+use Rattle.definition.specs.Parser.{is, trivia, newline-leaf, inline, after, peek, Reader, _then_, skip, skip-trivia, nothing, bump}
 use Rattle.definition.specs.Syntax.{hash-item, item, file}
 use Rattle.definition.specs.Grammar.{One, one, Many, no-more, one-more, _⨾_, Eol, at-newline, at-end, t*, lparen, no-word, a-word, Sort, blank, text, group, directive, Item, Cut, Division, Keeps}
 use Rattle.theorems.proofs.Grammar.Clean.{Clean, Both, clean-then, then-clean, of-kind, none-pass, after-many, Skipped, skipped, many-many, clean-skip, clean-trivia, trivia-clean}
@@ -24,7 +24,7 @@ use Rattle.theorems.proofs.Grammar.Shorter.{item-shorter}
 sort-of : List Leaf → Option Sort
 sort-of [] = none
 sort-of (t ∷ ts) =
-    some (if newline t then blank else if is Kind.HASH t then (if peek lparen (after trivia ts) then group else directive) else text)
+    some (if newline-leaf t then blank else if is Kind.HASH t then (if peek lparen (after trivia ts) then group else directive) else text)
 
 -- The end of a line is taken with no error, and what stands behind a line's leaves is its end.
 clean-eol : {L R : List Leaf} → Eol L R → Clean bump L R
@@ -35,7 +35,7 @@ clean-eol at-end = record { clear = (refl, refl) }
 eol-clean : (L : List Leaf) → peek inline L ≡ false → Eol L (bump L .rest)
 unfolding peek bump
 eol-clean [] h = at-end
-eol-clean (t ∷ L) h = at-newline (not-false (newline t) h)
+eol-clean (t ∷ L) h = at-newline (not-false (newline-leaf t) h)
 
 -- What is read where no HASH stands: all up to the end of a line.
 abbrev text-line : Reader
@@ -80,7 +80,7 @@ module _ (n : ℕ) where
         no-group = rw (after-many j (solid-eol .begins z)) (eol-is Kind.LPAREN refl z);
       }
   clean-line m (a-word {t = t} e q r ⨾ k) =
-      let f = none-pass (trivia t) (newline t) (lparen t) e in
+      let f = none-pass (trivia t) (newline-leaf t) (lparen t) e in
       record {
         clean = clean-then skip-trivia (line n) (clean-trivia m (f .0)) (clean-word n e q (r ⨾ k));
         no-group = rw (after-many m (f .0)) (f .2);
@@ -92,7 +92,7 @@ module _ (n : ℕ) where
       let q : after trivia L ≡ t ∷ R = after-many m (rw (of-kind t e)) in
       record { clean = plain-item q (rw (of-kind t e)) .0 (clean-text-line m (rw (of-kind t e)) no-more (at-newline e)); sorted = rw (q, sort-of, e) }
   clean-item text {L} (m ⨾ one {t = t} {R = M} e ⨾ k ⨾ z) =
-      let f = none-pass (trivia t) (is Kind.HASH t) (newline t) e in
+      let f = none-pass (trivia t) (is Kind.HASH t) (newline-leaf t) e in
       let q : after trivia L ≡ t ∷ M = after-many m (f .0) in
       record { clean = plain-item q (f .1) .0 (clean-text-line m (f .0) (one-more (ap not (f .2)) k) z); sorted = rw (q, sort-of, f .2, f .1) }
   clean-item group {L} (m ⨾ one {t = t} {R = M} e ⨾ k ⨾ one {t = u} {R = N} f ⨾ z) =
@@ -114,20 +114,20 @@ module _ (n : ℕ) where
 
   item-clean : (t : Leaf) (L M : List Leaf) {R : List Leaf} → after trivia L ≡ t ∷ M → Clean (item n id) L R → Found L R
   unfolding peek after bump
-  item-clean t L M {R} q c = go (is Kind.HASH t) refl (newline t) refl (rw q at (skipped trivia L))
+  item-clean t L M {R} q c = go (is Kind.HASH t) refl (newline-leaf t) refl (rw q at (skipped trivia L))
     where
       hashed : {N : List Leaf} → is Kind.HASH t ≡ true → t* L (t ∷ M) → t* M N → Group N R ⊎ Line N R → Found L R
       hashed e m k (inl g) = record { sort = group; it = m ⨾ one e ⨾ k ⨾ g }
       hashed e m k (inr d) = record { sort = directive; it = m ⨾ one e ⨾ k ⨾ d }
 
-      go : (x : Bool) → is Kind.HASH t ≡ x → (y : Bool) → newline t ≡ y → Skipped trivia L (t ∷ M) → Found L R
+      go : (x : Bool) → is Kind.HASH t ≡ x → (y : Bool) → newline-leaf t ≡ y → Skipped trivia L (t ∷ M) → Found L R
       go true e y f s =
           let b = then-clean skip-trivia (line n) (hashed-item q e .1 c) in
           let k = trivia-clean (b .first) in
           hashed e (s .passed) (k .passed) (line-clean n (b .middle) (k .next) (b .second))
       go false e true f s =
           let r : M ≡ R = rw (f, after) at (text-clean q (plain-item q e .1 c)) in
-          record { sort = blank; it = s .passed ⨾ subst (One newline (t ∷ M)) r (one f) }
+          record { sort = blank; it = s .passed ⨾ subst (One newline-leaf (t ∷ M)) r (one f) }
       go false e false f s =
           let r : bump (after inline M) .rest ≡ R = rw (f, after) at (text-clean q (plain-item q e .1 c)) in
           let k = skipped inline M in

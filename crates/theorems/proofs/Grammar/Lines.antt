@@ -6,7 +6,7 @@ use mathlib.Core.List.{List, [], _∷_, cons-ne-nil}
 use mathlib.Core.Option.{Option, none, some}
 use mathlib.Core.Logic.{_⊎_, inl, inr}
 use Rattle.definition.specs.Tree.{Leaf}
-use Rattle.definition.specs.Parser.{is, trivia, newline, peek, Reader, _then_, nothing, bump}
+use Rattle.definition.specs.Parser.{is, trivia, newline-leaf, peek, Reader, _then_, nothing, bump}
 use Rattle.definition.specs.Syntax.{Directive, directive, unknown, pp-rs-ident, control-line}
 use Rattle.definition.specs.Grammar.{One, one, no-more, _⨟_, _⨾_, Eol, at-newline, at-end, t*, lparen, word-leaf, Closes, Rest, rest-of, Content, no-word, a-word}
 use Rattle.theorems.proofs.Grammar.Clean.{Clean, clean-then, of-kind, none-pass, clean-bump, bump-clean}
@@ -28,20 +28,20 @@ module _ (n : ℕ) where
 
   -- The four cases of a line that is not at the end.
   module _ (t : Leaf) (L : List Leaf) where
-    at-eol : newline t ≡ true → line (t ∷ L) ≡ bump (t ∷ L)
+    at-eol : newline-leaf t ≡ true → line (t ∷ L) ≡ bump (t ∷ L)
     unfolding control-line
     at-eol e = rw (e, line, control-line)
 
-    at-group : newline t ≡ false → lparen t ≡ true → line (t ∷ L) ≡ (bump then pp-rs-ident t 0) (t ∷ L)
+    at-group : newline-leaf t ≡ false → lparen t ≡ true → line (t ∷ L) ≡ (bump then pp-rs-ident t 0) (t ∷ L)
     unfolding control-line
     at-group e f = rw (e, line, control-line, f)
 
-    at-word : (d : Directive) → newline t ≡ false → lparen t ≡ false → directive-of n t ≡ some d
+    at-word : (d : Directive) → newline-leaf t ≡ false → lparen t ≡ false → directive-of n t ≡ some d
         → line (t ∷ L) ≡ directive t d (t ∷ L)
     unfolding control-line
     at-word d e f g = rw (e, line, control-line, f, g)
 
-    at-unknown : newline t ≡ false → lparen t ≡ false → directive-of n t ≡ none
+    at-unknown : newline-leaf t ≡ false → lparen t ≡ false → directive-of n t ≡ none
         → line (t ∷ L) ≡ unknown t (t ∷ L)
     unfolding control-line
     at-unknown e f g = rw (e, line, control-line, f, g)
@@ -63,19 +63,19 @@ module _ (n : ℕ) where
     where
       go : (o : Option Directive) → directive-of n t ≡ o → Agree t (some r) o → Clean line (t ∷ L) R
       go (some d) e (both x) =
-          let f = none-pass (trivia t) (newline t) (lparen t) p in
+          let f = none-pass (trivia t) (newline-leaf t) (lparen t) p in
           record { clear = rw (at-word t L d (f .1) (f .2) e) (clean-then bump (d .reads then tail t) clean-bump (x .to g) .clear) }
 
   -- And the other way round.
   pub line-clean : (L : List Leaf) {R : List Leaf} → peek trivia L ≡ false → Clean line L R → Group L R ⊎ Line L R
   unfolding control-line nothing bump peek directive unknown
   line-clean [] p c = inr (subst (Line []) (c .clear .1) (no-word ⨾ no-more ⨾ at-end))
-  line-clean (t ∷ L) {R} p c = go (newline t) refl (lparen t) refl (rest-behind t) refl (directive-of n t) refl (agreed n t)
+  line-clean (t ∷ L) {R} p c = go (newline-leaf t) refl (lparen t) refl (rest-behind t) refl (directive-of n t) refl (agreed n t)
     where
       with-word : {r : Rest} → word-leaf t ≡ true → rest-behind t ≡ some r → (rest-of r ⨟ t* ⨟ Eol) L R → Line (t ∷ L) R
       with-word e q (x ⨾ m) = a-word e q x ⨾ m
 
-      go : (x : Bool) → newline t ≡ x → (y : Bool) → lparen t ≡ y
+      go : (x : Bool) → newline-leaf t ≡ x → (y : Bool) → lparen t ≡ y
           → (a : Option Rest) → rest-behind t ≡ a
           → (o : Option Directive) → directive-of n t ≡ o
           → Agree t a o → Group (t ∷ L) R ⊎ Line (t ∷ L) R

@@ -10,16 +10,16 @@ use Rattle.definition.specs.Unescaped.{unescaped}
 use Rattle.definition.specs.SyntaxKind.{Kind}
 use Rattle.definition.specs.Tree.{Leaf}
 use Rattle.definition.specs.Error.{ErrorKind, named-error}
-use Rattle.definition.specs.Parser.{is, trivia, newline, inline, peek, Reader, _then_, wrap, skip, skip-trivia, nothing, bump, maybe}
-use Rattle.definition.specs.Syntax.{body, pp-body, pp-define, pp-version, pp-include, extra, finish, Directive, named, directives}
-use Rattle.definition.specs.Grammar.{one, Many, no-more, _⨟_, _⨾_, Maybe, without, with-it, Eol, at-newline, at-end, t*, IDENT_KW, Rest, rest-of, Word, words, rest-after}
+use Rattle.definition.specs.Parser.{is, trivia, newline-leaf, inline, peek, Reader, _then_, wrap, skip, skip-trivia, nothing, bump, maybe}
+use Rattle.definition.specs.Syntax.{body, pp-body, pp-define, pp-version, pp-include, extra, finish, Directive, directive-named, directives}
+use Rattle.definition.specs.Grammar.{one, Many, no-more, _⨟_, _⨾_, Maybe, without, with-it, Eol, at-newline, at-end, t*, IDENT_KW, Rest, rest-of, WordRow, words, rest-after}
 use Rattle.theorems.proofs.Grammar.Clean.{Clean, clean-then, then-clean, of-kind, after-many, skipped, many-many, many-inline, inline-after, clean-trivia, trivia-clean}
 use Rattle.theorems.proofs.Grammar.Exact.{Rel, Exact, exact-then, exact-assoc, Solid, exact-lead, solid-one, solid-ident, solid-then, exact-wrap, exact-nothing, If, there, not-there, exact-maybe, exact-one, exact-ident, exact-if-ident, exact-extension}
 use Rattle.theorems.proofs.Grammar.Groups.{exact-args}
 use Rattle.theorems.proofs.Grammar.Plain.{id}
 
 -- At the end of a line stands a NEWLINE or nothing.
-eol-not : (p : Leaf → Bool) → ((t : Leaf) → newline t ≡ true → p t ≡ false) → {L R : List Leaf} → Eol L R → peek p L ≡ false
+eol-not : (p : Leaf → Bool) → ((t : Leaf) → newline-leaf t ≡ true → p t ≡ false) → {L R : List Leaf} → Eol L R → peek p L ≡ false
 unfolding peek
 eol-not p h (at-newline {t = t} e) = h t e
 eol-not p h at-end = refl
@@ -58,9 +58,9 @@ module _ (w : Leaf) where
 
       from : (L : List Leaf) {R : List Leaf} → Clean ending L R → Eol L R
       from [] c = subst (Eol []) (c .clear .1) at-end
-      from (t ∷ L) {R} c = go (newline t) refl
+      from (t ∷ L) {R} c = go (newline-leaf t) refl
         where
-          go : (b : Bool) → newline t ≡ b → Eol (t ∷ L) R
+          go : (b : Bool) → newline-leaf t ≡ b → Eol (t ∷ L) R
           go true e = subst (Eol (t ∷ L)) (rw (e, finish) at (c .clear .1)) (at-newline e)
           go false e = absurd (cons-ne-nil _ _ (rw (e, finish) at (c .clear .0)))
 
@@ -130,9 +130,9 @@ module _ (w : Leaf) where
 
 infixr 30 _⋮_
 -- The words of the grammar beside those of the reader, each rest beside its reader.
-data Aligned (w : Leaf) : List Word → List Directive → Type 0 where
+data Aligned (w : Leaf) : List WordRow → List Directive → Type 0 where
   end : Aligned w [] []
-  _⋮_ : {s : List ℕ} {r : Rest} {k : ℕ} {p : Reader} {xs : List Word} {ds : List Directive}
+  _⋮_ : {s : List ℕ} {r : Rest} {k : ℕ} {p : Reader} {xs : List WordRow} {ds : List Directive}
       → Whole w p (rest-of r) → Aligned w xs ds
       → Aligned w (record { spelt = s; rest = r } ∷ xs) (record { spelt = s; node-kind = k; reads = p } ∷ ds)
 
@@ -148,22 +148,22 @@ pub data Agree (w : Leaf) : Option Rest → Option Directive → Type 0 where
   neither : Agree w none none
   both : {r : Rest} {d : Directive} → Whole w (d .reads) (rest-of r) → Agree w (some r) (some d)
 
-agree : (w : Leaf) {xs : List Word} {ds : List Directive} → Aligned w xs ds → (s : List ℕ) → Agree w (rest-after xs s) (named ds s)
-unfolding rest-after named
+agree : (w : Leaf) {xs : List WordRow} {ds : List Directive} → Aligned w xs ds → (s : List ℕ) → Agree w (rest-after xs s) (directive-named ds s)
+unfolding rest-after directive-named
 agree w end s = neither
 agree w (_⋮_ {s = v} {r} {k} {p} {xs} {ds} g h) s = go (same v s) refl (agree w h s)
   where
-    go : (b : Bool) → same v s ≡ b → Agree w (rest-after xs s) (named ds s)
-        → Agree w (rest-after (record { spelt = v; rest = r } ∷ xs) s) (named (record { spelt = v; node-kind = k; reads = p } ∷ ds) s)
-    go true e ih = rw (e, rest-after, named) (both g)
-    go false e ih = rw (e, rest-after, named) ih
+    go : (b : Bool) → same v s ≡ b → Agree w (rest-after xs s) (directive-named ds s)
+        → Agree w (rest-after (record { spelt = v; rest = r } ∷ xs) s) (directive-named (record { spelt = v; node-kind = k; reads = p } ∷ ds) s)
+    go true e ih = rw (e, rest-after, directive-named) (both g)
+    go false e ih = rw (e, rest-after, directive-named) ih
 
 -- The rest that the grammar asks for behind a word, and the directive of that word.
 abbrev pub rest-behind : Leaf → Option Rest
 rest-behind t = rest-after words (unescaped (t .bytes))
 
 abbrev pub directive-of : ℕ → Leaf → Option Directive
-directive-of n t = named (directives n id) (unescaped (t .bytes))
+directive-of n t = directive-named (directives n id) (unescaped (t .bytes))
 
 pub agreed : (n : ℕ) (t : Leaf) → Agree t (rest-behind t) (directive-of n t)
 agreed n t = agree t (aligned t n) (unescaped (t .bytes))

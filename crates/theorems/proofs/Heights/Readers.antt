@@ -8,7 +8,7 @@ use Rattle.definition.specs.Text.{if_then_else_}
 use Rattle.definition.specs.SyntaxKind.{Kind}
 use Rattle.definition.specs.Tree.{Leaf, nil, leaf, body-kind}
 use Rattle.definition.specs.Error.{Err}
-use Rattle.definition.specs.Parser.{is, trivia, newline, inline, while, peek, Got, Reader, _then_, wrap, skip, skip-trivia, nothing, bump, maybe, expect-one}
+use Rattle.definition.specs.Parser.{is, trivia, newline-leaf, inline, while, peek, Got, Reader, _then_, wrap, skip, skip-trivia, nothing, bump, maybe, expect-one}
 use Rattle.definition.specs.Syntax.{trimmed, trailing, body, pp-body, wanted, push-arg, args, define-args, pp-define, pp-if-ident, pp-version, colon, pp-extension, extra, finish, unknown, depth, pp-rs-ident}
 use Rattle.theorems.specs.Height.{Low}
 use Rattle.theorems.proofs.Heights.Laws.{low-nil, low-leaf, low-row, low-▹, low-node}
@@ -84,7 +84,7 @@ module _ {n : ℕ} where
   unfolding finish extra
   low-finish e [] = low-nothing []
   low-finish e (t ∷ ts) =
-      low-if (newline t) _ _ (low-bump (t ∷ ts)) (low-then _ _ (low-wrap Kind.ERROR (extra _) refl (λ us. low-row (while inline us))) low-bump (t ∷ ts))
+      low-if (newline-leaf t) _ _ (low-bump (t ∷ ts)) (low-then _ _ (low-wrap Kind.ERROR (extra _) refl (λ us. low-row (while inline us))) low-bump (t ∷ ts))
 
   pub low-unknown : (w : Leaf) → Shallow (suc n) (unknown w)
   unfolding unknown
@@ -113,7 +113,7 @@ module _ {n : ℕ} (m : ℕ) where
       low-if (trivia t) _ _ (low-leaf t _ (low-args first ts))
       (low-if (is Kind.RPAREN t) _ _ (low-leaf t _ (low-nothing ts))
       (low-if (is (wanted first) t) _ _ (low-arg first t (args m (not first) ts) (low-args (not first) ts))
-      (low-if (newline t) _ _ (low-nothing (t ∷ ts)) (low-leaf t _ (low-args (not first) ts)))))
+      (low-if (newline-leaf t) _ _ (low-nothing (t ∷ ts)) (low-leaf t _ (low-args (not first) ts)))))
 
   -- and one is over the list.
   pub low-define-args : Shallow (suc (suc n)) (define-args m)
@@ -141,7 +141,7 @@ low-colon : {n : ℕ} (m : ℕ) (r : Reader) → Shallow n r → Shallow n (colo
 unfolding colon
 low-colon m r a [] = low-nothing []
 low-colon m r a (t ∷ ts) =
-    low-if (is Kind.COLON t) _ _ (low-then bump r low-bump a (t ∷ ts)) (low-if (newline t) _ _ (low-nothing (t ∷ ts)) (low-leaf t _ (low-nothing ts)))
+    low-if (is Kind.COLON t) _ _ (low-then bump r low-bump a (t ∷ ts)) (low-if (newline-leaf t) _ _ (low-nothing (t ∷ ts)) (low-leaf t _ (low-nothing ts)))
 
 pub low-extension : {n : ℕ} (m : ℕ) → Shallow (suc n) (pp-extension m)
 unfolding pp-extension

@@ -12,8 +12,8 @@ use Rattle.definition.specs.Unescaped.{unescaped}
 use Rattle.definition.specs.Glue.{tokens}
 use Rattle.definition.specs.Tree.{Leaf, placed, Forest, nil, node, row, _▹_, body-kind, body-concats}
 use Rattle.definition.specs.Error.{Err}
-use Rattle.definition.specs.Parser.{is, trivia, newline, inline, while, after, peek, Got, _then_, skip-trivia, bump}
-use Rattle.definition.specs.Syntax.{trimmed, pp-include, Directive, directives, named, directive, pp-rs-ident, Line, group, control-line, hash-item, item, file, relexed, parse, parse-define-body}
+use Rattle.definition.specs.Parser.{is, trivia, newline-leaf, inline, while, after, peek, Got, _then_, skip-trivia, bump}
+use Rattle.definition.specs.Syntax.{trimmed, pp-include, Directive, directives, directive-named, directive, pp-rs-ident, Line, group, control-line, hash-item, item, file, relexed, parse, parse-define-body}
 use Rattle.definition.specs.Calls.{too-many}
 use Rattle.theorems.specs.Height.{height, open-levels, Low}
 use Rattle.theorems.proofs.Heights.Laws.{largest-few, low-nil, low-row, low-▹, low-node, low-more}
@@ -38,12 +38,12 @@ data Found : Option Directive → Type 0 where
   unnamed : Found none
   one : {d : Directive} → Ordinary d → Found (some d)
 
-found : {ds : List Directive} → All ds → (w : List ℕ) → Found (named ds w)
-unfolding named
+found : {ds : List Directive} → All ds → (w : List ℕ) → Found (directive-named ds w)
+unfolding directive-named
 found done w = unnamed
 found (_&_ {d} {ds} o os) w = go (same (d .spelt) w) (found os w)
   where
-    go : (b : Bool) → Found (named ds w) → Found (if b then some d else named ds w)
+    go : (b : Bool) → Found (directive-named ds w) → Found (if b then some d else directive-named ds w)
     go true ih = one o
     go false ih = ih
 
@@ -95,16 +95,16 @@ module _ (n : ℕ) (again : List Leaf → List Leaf) where
   low-line : (ts : List Leaf) → Low-line (control-line n again ts)
   unfolding control-line
   low-line [] = record { kind = of-kind refl; low = low-nothing [] }
-  low-line (t ∷ ts) = go (newline t) refl (is Kind.LPAREN t) refl
+  low-line (t ∷ ts) = go (newline-leaf t) refl (is Kind.LPAREN t) refl
     where
       Goal : Type 0
       Goal = Low-line (control-line n again (t ∷ ts))
 
-      word : (o : Option Directive) → named (directives n again) (unescaped (t .bytes)) ≡ o → newline t ≡ false → is Kind.LPAREN t ≡ false → Found o → Goal
+      word : (o : Option Directive) → directive-named (directives n again) (unescaped (t .bytes)) ≡ o → newline-leaf t ≡ false → is Kind.LPAREN t ≡ false → Found o → Goal
       word _ e a b unnamed = rw (a, b, e, control-line) (record { kind = of-kind refl; low = low-unknown t (t ∷ ts) })
       word _ e a b (one {d} o) = rw (a, b, e, control-line) (record { kind = of-kind (o .no-body); low = low-directive t d o (t ∷ ts) })
 
-      go : (a : Bool) → newline t ≡ a → (b : Bool) → is Kind.LPAREN t ≡ b → Goal
+      go : (a : Bool) → newline-leaf t ≡ a → (b : Bool) → is Kind.LPAREN t ≡ b → Goal
       go true a b eb = rw (a, control-line) (record { kind = of-kind refl; low = low-bump (t ∷ ts) })
       go false a true b = rw (a, b, control-line) (record { kind = group-kind ((bump then pp-rs-ident t 0) (t ∷ ts)); low = low-then bump (pp-rs-ident t 0) low-bump (low-group t 0) (t ∷ ts) })
       go false a false b = word _ refl a b (found ordinary (unescaped (t .bytes)))

@@ -12,15 +12,15 @@ use Rattle.definition.specs.Unescaped.{unescaped}
 use Rattle.definition.specs.Pre.{find}
 use Rattle.definition.specs.Runs.{runs}
 use Rattle.definition.specs.Glue.{Token, tokens, glued, glues, defined}
-use Rattle.theorems.specs.Walk.{named}
+use Rattle.theorems.specs.Walk.{name-kind}
 use Rattle.theorems.specs.Step.{glue-begin, glue-more, read-so-far}
 use Rattle.theorems.proofs.Lexing.Glues.{every, glued-passes}
 use Rattle.theorems.proofs.Lexing.Gluing.{glue-start}
 use Rattle.theorems.proofs.Lexing.PreAt.{walk-at, bytes-at, pre-at}
 
 -- What holds of a kind, and of DEFINED, holds of the kind by name.
-pub named-kind : (P : ℕ → Type 0) → P Kind.DEFINED → (k : ℕ) (xs : List ℕ) → P k → P (named k xs)
-unfolding named
+pub named-kind : (P : ℕ → Type 0) → P Kind.DEFINED → (k : ℕ) (xs : List ℕ) → P k → P (name-kind k xs)
+unfolding name-kind
 named-kind P d k xs h = go (eqb k Kind.IDENT_KW && same (unescaped xs) defined)
   where
     go : (t : Bool) → P (if t then Kind.DEFINED else k)

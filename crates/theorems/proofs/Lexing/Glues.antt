@@ -22,12 +22,12 @@ module _ (P : Glue → Bool) where
   unfolding glued every
   glued-passes [] a b j h e = absurd (Option·none-ne-some j e)
   glued-passes (g ∷ gs) a b j h e =
-      go (eqb (g .left) a) (eqb (g .right) b) refl refl (glued-passes gs a b j (and-eq-true-iff (P g) (every P gs) .0 h .1))
+      go (eqb (g .lhs) a) (eqb (g .rhs) b) refl refl (glued-passes gs a b j (and-eq-true-iff (P g) (every P gs) .0 h .1))
     where
-      go : (t u : Bool) → eqb (g .left) a ≡ t → eqb (g .right) b ≡ u → (glued gs a b ≡ some j → P (gl a b j) ≡ true) → P (gl a b j) ≡ true
+      go : (t u : Bool) → eqb (g .lhs) a ≡ t → eqb (g .rhs) b ≡ u → (glued gs a b ≡ some j → P (gl a b j) ≡ true) → P (gl a b j) ≡ true
       go true true p q ih =
-          let x : g .left ≡ a = eqb-true _ _ p in
-          let y : g .right ≡ b = eqb-true _ _ q in
+          let x : g .lhs ≡ a = eqb-true _ _ p in
+          let y : g .rhs ≡ b = eqb-true _ _ q in
           let z : g .both ≡ j = Option·some-injective (g .both) j (rw (p, q) at e) in
           rw (← x, ← y, ← z) (and-eq-true-iff (P g) (every P gs) .0 h .0)
       go true false p q ih = ih (rw (p, q) at e)
@@ -43,18 +43,18 @@ module _ (P : Glue → Bool) where
 
 -- A kind that no step has on its right.
 abbrev pub Loose : ℕ → Type 0
-Loose k = every (λ g. not (eqb (g .right) k)) glues ≡ true
+Loose k = every (λ g. not (eqb (g .rhs) k)) glues ≡ true
 
 pub loose-none : (a k : ℕ) → Loose k → glued glues a k ≡ none
-loose-none a k h = glued-none (λ g. not (eqb (g .right) k)) glues a k h (λ j. rw (eq-eqb k k refl))
+loose-none a k h = glued-none (λ g. not (eqb (g .rhs) k)) glues a k h (λ j. rw (eq-eqb k k refl))
 
 -- Kinds of a range that no step has on its left.
 abbrev pub Settled : ℕ → ℕ → Type 0
-Settled low high = every (λ g. not (among low high (g .left))) glues ≡ true
+Settled low high = every (λ g. not (among low high (g .lhs))) glues ≡ true
 
 pub settled-none : (low high a b : ℕ) → Settled low high → low ≤ a → a ≤ high → glued glues a b ≡ none
 settled-none low high a b h l u =
-    glued-none (λ g. not (among low high (g .left))) glues a b h (λ j. rw (le-leb low a l, le-leb a high u))
+    glued-none (λ g. not (among low high (g .lhs))) glues a b h (λ j. rw (le-leb low a l, le-leb a high u))
 
 -- No two kinds together are a PERIOD, or 0.
 never-both : (x : ℕ) → every (λ g. not (eqb (g .both) x)) glues ≡ true → (a b : ℕ) → glued glues a b ≡ some x → ⊥
@@ -71,7 +71,7 @@ never-period a b j e z = never-both Kind.PERIOD refl a b (e ∙ ap some z)
 
 -- Each step has EQUAL on its right, or two kinds alike, or is PERIOD with DIGITS.
 abbrev shaped : Glue → Bool
-shaped g = eqb (g .right) Kind.EQUAL || eqb (g .left) (g .right) || (eqb (g .left) Kind.PERIOD && eqb (g .right) Kind.DIGITS)
+shaped g = eqb (g .rhs) Kind.EQUAL || eqb (g .lhs) (g .rhs) || (eqb (g .lhs) Kind.PERIOD && eqb (g .rhs) Kind.DIGITS)
 
 pub other-none : (a b : ℕ) → (b ≡ Kind.EQUAL → ⊥) → (a ≡ b → ⊥) → (a ≡ Kind.PERIOD → b ≡ Kind.DIGITS → ⊥) → glued glues a b ≡ none
 unfolding every

@@ -12,7 +12,7 @@ use Rattle.definition.specs.SyntaxKind.{Kind}
 use Rattle.definition.specs.Newline.{newline, blank, char-more}
 use Rattle.definition.specs.Pre.{State, ident, single-comment, whitespace, backslash, digits, in-ident, in-comment, in-digits, more, kind-of}
 use Rattle.definition.specs.Glue.{glued, glues}
-use Rattle.theorems.specs.Walk.{walk, named}
+use Rattle.theorems.specs.Walk.{walk, name-kind}
 use Rattle.theorems.proofs.Lexing.Glues.{every, glued-none}
 use Rattle.theorems.proofs.Lexing.Sorts.{Next, next-if, next-is, next-none, walk-ends}
 use Rattle.theorems.proofs.Lexing.Walk.{walk-same, walk-more, walk-stop}
@@ -68,7 +68,7 @@ quiet k = one-of (Kind.IDENT_KW ∷ Kind.DEFINED ∷ Kind.DIGITS ∷ Kind.BACKSL
 
 pub quiet-settled : (k : ℕ) → quiet k ≡ true → (x : ℕ) → glued glues k x ≡ none
 unfolding every
-quiet-settled k h x = glued-none (λ g. not (quiet (g .left))) glues k x refl (λ j. ap not h)
+quiet-settled k h x = glued-none (λ g. not (quiet (g .lhs))) glues k x refl (λ j. ap not h)
 
 pub quiet-no-linecont : (k : ℕ) → quiet k ≡ true → k ≡ Kind.LINECONT → ⊥
 quiet-no-linecont k h z = false≢true (rw z at h)
@@ -80,7 +80,7 @@ kinds-quiet numbers = (refl, refl)
 kinds-quiet blanks = refl
 kinds-quiet comments = refl
 
-pub open-quiet : {o : Open} (q : State) (c : ℕ) (bs xs : List ℕ) → In o q → quiet (named (walk q c bs .kind) xs) ≡ true
+pub open-quiet : {o : Open} (q : State) (c : ℕ) (bs xs : List ℕ) → In o q → quiet (name-kind (walk q c bs .kind) xs) ≡ true
 open-quiet {o} q c bs xs h = named-kind (λ k. quiet k ≡ true) refl (walk q c bs .kind) xs (open-kind (λ k. quiet k ≡ true) (kinds-quiet o) q c bs h)
 
 -- What holds of the first byte, if there is one.

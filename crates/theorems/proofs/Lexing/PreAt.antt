@@ -11,7 +11,7 @@ use lib.Seq.{drop-cons, drop-drop, length-take-le}
 use Rattle.definition.specs.Pre.{begin, flag}
 use Rattle.definition.specs.Runs.{grouped}
 use Rattle.definition.specs.Glue.{tokens, glued, glues}
-use Rattle.theorems.specs.Walk.{Walk, walk, named, pre-tokens, pre-token}
+use Rattle.theorems.specs.Walk.{Walk, walk, name-kind, pre-tokens, pre-token}
 use Rattle.theorems.specs.Step.{Stepped, Pre-stepped, Gluing}
 use Rattle.theorems.proofs.Lexing.Walk.{pre-tokens-cons, pre-tokens-nil, walk-fits}
 use Rattle.theorems.proofs.Lexing.Gluing.{made, tokens-made, glue-end, glue-stop}
@@ -25,7 +25,7 @@ module _ (s : List ℕ) (at : ℕ) (f : Bool) where
   abbrev pub bytes-at : List ℕ
   bytes-at = getD s at 0 ∷ take (walk-at .long) (drop (suc at) s)
 
-  pub pre-at : at < length s → Pre-stepped s at f (named (walk-at .kind) bytes-at) (at + suc (walk-at .long)) (flag f (getD s at 0))
+  pub pre-at : at < length s → Pre-stepped s at f (name-kind (walk-at .kind) bytes-at) (at + suc (walk-at .long)) (flag f (getD s at 0))
   unfolding pre-token
   pre-at h =
       let b : ℕ = getD s at 0 in

@@ -18,9 +18,9 @@ use Rattle.definition.specs.Runs.{text}
 use Rattle.definition.specs.Glue.{Token}
 use Rattle.definition.specs.Tree.{Leaf, placed}
 use Rattle.definition.specs.Parser.{is, trivia, after, peek}
-use Rattle.theorems.specs.Walk.{Walk, walk, longer, named}
+use Rattle.theorems.specs.Walk.{Walk, walk, longer, name-kind}
 use Rattle.theorems.specs.Step.{Stepped, Pre-stepped}
-use Rattle.theorems.specs.Left.{left, leaf-kind, leaf-between}
+use Rattle.theorems.specs.LeavesFrom.{leaves-from, leaf-kind, leaf-between}
 use Rattle.theorems.specs.TextLines.{Text}
 use Rattle.theorems.proofs.Lexing.Glues.{every}
 use Rattle.theorems.proofs.Lexing.Gluing.{glue-start}
@@ -30,7 +30,7 @@ use Rattle.theorems.proofs.Lexing.Walk.{walk-more, walk-stop}
 use Rattle.theorems.proofs.Lexing.Firsts.{First, first-kind, may-find, find-kind}
 use Rattle.theorems.proofs.Lexing.Open.{Kinds, open-kind, quiet-settled, Head, head-at, comment-end}
 use Rattle.theorems.proofs.Lexing.Open as open-tokens
-use Rattle.theorems.proofs.Left.{left-step, left-over}
+use Rattle.theorems.proofs.LeavesFrom.{leaves-step, leaves-over}
 use Rattle.theorems.proofs.Tiling.Leaves.{after-yes, after-stop}
 
 -- Kinds of tokens whose leaves are neither trivia nor HASH.
@@ -101,28 +101,28 @@ module _ (s : List ℕ) (at : ℕ) (f : Bool) (h : at < length s) where
   abbrev first : ℕ
   first = getD s at 0
 
-  text-kind : plain (walk-at s at f .kind) ≡ true → Text (left s at f)
-  unfolding left every
+  text-kind : plain (walk-at s at f .kind) ≡ true → Text (leaves-from s at f)
+  unfolding leaves-from every
   text-kind k = text-first at _ (first-kind plain refl refl s at f h k)
 
-  text-begin : Plain (begin f first) → Text (left s at f)
+  text-begin : Plain (begin f first) → Text (leaves-from s at f)
   text-begin p = text-kind (p .ends first (drop (suc at) s))
 
   -- A byte that begins no HASH, no blanks, no continuation and no comment.
-  pub text-byte : blank first ≡ false → (first ≡ byte "#" → ⊥) → (first ≡ byte "/" → ⊥) → (first ≡ byte "\\" → ⊥) → Text (left s at f)
+  pub text-byte : blank first ≡ false → (first ≡ byte "#" → ⊥) → (first ≡ byte "/" → ⊥) → (first ≡ byte "\\" → ⊥) → Text (leaves-from s at f)
   text-byte e n m k = text-begin (begin-plain f first e n m k)
 
 -- At a newline, or at the end of the source.
-text-end : (s : List ℕ) (e : ℕ) (f : Bool) → Head (λ b. newline b ≡ true) (drop e s) → Text (left s e f)
+text-end : (s : List ℕ) (e : ℕ) (f : Bool) → Head (λ b. newline b ≡ true) (drop e s) → Text (leaves-from s e f)
 unfolding after peek
 text-end s e f k = elim (decLt e (length s)) [
   | yes h ↦ text-begin s e f h (begin-newline f (getD s e 0) (head-at (λ b. newline b ≡ true) s e h k))
-  | no h ↦ rw (left-over s e f (omega arith))
+  | no h ↦ rw (leaves-over s e f (omega arith))
 ]
 
 -- A token of trivia, behind which no directive begins.
-pub text-behind : (s : List ℕ) (at : ℕ) (f : Bool) (k e : ℕ) (g : Bool) → Stepped s at f k e g → trivia (leaf-between s k at e) ≡ true → Text (left s e g) → Text (left s at f)
-text-behind s at f k e g u t h = rw (left-step s at f k e g u) (ap (peek (is Kind.HASH)) (after-yes trivia (leaf-between s k at e) (left s e g) t) ∙ h)
+pub text-behind : (s : List ℕ) (at : ℕ) (f : Bool) (k e : ℕ) (g : Bool) → Stepped s at f k e g → trivia (leaf-between s k at e) ≡ true → Text (leaves-from s e g) → Text (leaves-from s at f)
+text-behind s at f k e g u t h = rw (leaves-step s at f k e g u) (ap (peek (is Kind.HASH)) (after-yes trivia (leaf-between s k at e) (leaves-from s e g) t) ∙ h)
 
 -- A slash that begins no comment of several lines: alone, or the first of two.
 begin-slash : (f : Bool) → begin f (byte "/") ≡ slash
@@ -149,8 +149,8 @@ module _ (s : List ℕ) (at : ℕ) (f : Bool) (h : at < length s) (e : getD s at
   walk-is = rw (e, begin-slash f) refl
 
   -- A comment from // on: the line ends behind it.
-  line-comment : (bs : List ℕ) → drop (suc at) s ≡ byte "/" ∷ bs → Text (left s at f)
-  unfolding named Kinds
+  line-comment : (bs : List ℕ) → drop (suc at) s ≡ byte "/" ∷ bs → Text (leaves-from s at f)
+  unfolding name-kind Kinds
   line-comment bs d =
       let w : Walk = walk single-comment (byte "/") bs in
       let stop : ℕ = at + suc (suc (w .long)) in
@@ -162,17 +162,17 @@ module _ (s : List ℕ) (at : ℕ) (f : Bool) (h : at < length s) (e : getD s at
       text-behind s at f Kind.COMMENT stop f (glue-settled _ _ _ _ _ _ (glue-start _ _ _ _ _ _ p) (quiet-settled Kind.COMMENT refl)) refl
       (text-end s stop f (rw r (comment-end (byte "/") bs)))
 
-  slash-kind : walk slash (byte "/") (drop (suc at) s) .kind ≡ Kind.SLASH → Text (left s at f)
+  slash-kind : walk slash (byte "/") (drop (suc at) s) .kind ≡ Kind.SLASH → Text (leaves-from s at f)
   slash-kind k = text-kind s at f h (ap (λ w. plain (w .kind)) walk-is ∙ ap plain k)
 
-  pub text-slash : (getD s (at + 1) 0 ≡ byte "*" → ⊥) → Text (left s at f)
+  pub text-slash : (getD s (at + 1) 0 ≡ byte "*" → ⊥) → Text (leaves-from s at f)
   unfolding walk kind-of
   text-slash n = elim (decLt (suc at) (length s)) [
     | yes l ↦ go l (eqb (getD s (suc at) 0) (byte "/")) refl
     | no l ↦ slash-kind (ap (λ bs. walk slash (byte "/") bs .kind) (let z : length s ≤ suc at = omega arith in drop-of-length-le s z))
   ]
     where
-      go : suc at < length s → (t : Bool) → eqb (getD s (suc at) 0) (byte "/") ≡ t → Text (left s at f)
+      go : suc at < length s → (t : Bool) → eqb (getD s (suc at) 0) (byte "/") ≡ t → Text (leaves-from s at f)
       go l true q = line-comment (drop (suc (suc at)) s) (drop-cons s (suc at) 0 l ∙ ap (λ x. x ∷ drop (suc (suc at)) s) (eqb-true _ _ q))
       go l false q =
           slash-kind (rw (drop-cons s (suc at) 0 l) (slash-alone (drop (suc (suc at)) s) (getD s (suc at) 0) (eqb-false _ _ q) (λ z. n (ap (λ i. getD s i 0) (add-one at) ∙ z))))

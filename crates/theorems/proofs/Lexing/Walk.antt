@@ -12,7 +12,7 @@ use Rattle.definition.specs.Unescaped.{unescaped}
 use Rattle.definition.specs.Pre.{State, Pre, done, slash, ident, single-comment, multi-comment, multi-comment-star, whitespace, quote-string, angle-string, backslash, digits, alone, in-ident, in-comment, in-digits, begin, flag, more, kind-of, pre-begin, pre-more, pres}
 use Rattle.definition.specs.Glue.{flat, pre-kind}
 use Rattle.theorems.proofs.Lexing.Chars.{char-row, first-char, row-on, row-off, class-kept}
-use Rattle.theorems.specs.Walk.{Walk, longer, walk, named, pre-tokens, pre-token}
+use Rattle.theorems.specs.Walk.{Walk, longer, walk, name-kind, pre-tokens, pre-token}
 
 -- The row of pre-tokens that is being read.
 abbrev pre-row : State → Bool → List (Run ℕ ℕ) → Row (Run ℕ ℕ) Pre
@@ -106,7 +106,7 @@ fused f q c (b ∷ bs) = go (char-more c b) refl (more q b) refl (λ p x. fused 
 
 pub pre-tokens-cons : (f : Bool) (b : ℕ) (bs : List ℕ)
     → pre-tokens f (b ∷ bs) ≡ pre-token f b bs ∷ pre-tokens (flag f b) (drop (walk (begin f b) b bs .long) bs)
-unfolding pre-tokens pres chars grouped pre-begin flat pre-kind pre-token named unescaped
+unfolding pre-tokens pres chars grouped pre-begin flat pre-kind pre-token name-kind unescaped
 pre-tokens-cons f b bs =
     let h : Fuse (flag f b) (begin f b) b bs = fused (flag f b) (begin f b) b bs in
     rw (begins f b bs, flags f b bs, h .kind, h .bytes, h .later, h .kept, h .first, h .others)

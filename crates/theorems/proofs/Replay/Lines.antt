@@ -9,8 +9,8 @@ use Rattle.definition.specs.SyntaxKind.{Kind}
 use Rattle.definition.specs.Unescaped.{unescaped}
 use Rattle.definition.specs.Tree.{Leaf, _▹_}
 use Rattle.definition.specs.Error.{Err, ErrorKind, named-error}
-use Rattle.definition.specs.Parser.{is, newline, Got, push, Reader, _then_, skip-trivia, nothing, bump}
-use Rattle.definition.specs.Syntax.{pp-body, pp-include, finish, Directive, directives, named, directive, unknown, pp-rs-ident, control-line}
+use Rattle.definition.specs.Parser.{is, newline-leaf, Got, push, Reader, _then_, skip-trivia, nothing, bump}
+use Rattle.definition.specs.Syntax.{pp-body, pp-include, finish, Directive, directives, directive-named, directive, unknown, pp-rs-ident, control-line}
 use Rattle.theorems.proofs.Grammar.Plain.{id}
 use Rattle.theorems.proofs.Tiling.Steady.{Heads, heads-nil, heads-cons, Again, starts-same, again-then, Steady-at, Steady, steady-then, steady-nothing, steady-trivia, steady-bump}
 use Rattle.theorems.proofs.Tiling.Readers.{steady-pp-body, steady-define, steady-if-ident, steady-version, steady-extension, steady-finish, steady-unknown, steady-group}
@@ -37,14 +37,14 @@ data Found : Option Directive → Option Directive → Type 0 where
   neither : Found none none
   both : {c d : Directive} → Kin c d → Found (some c) (some d)
 
-found : {cs ds : List Directive} → Kins cs ds → (w : List ℕ) → Found (named cs w) (named ds w)
-unfolding named
+found : {cs ds : List Directive} → Kins cs ds → (w : List ℕ) → Found (directive-named cs w) (directive-named ds w)
+unfolding directive-named
 found done w = neither
 found (_&_ {c} {d} {cs} {ds} k ks) w = go (same (c .spelt) w) refl (found ks w)
   where
-    go : (b : Bool) → same (c .spelt) w ≡ b → Found (named cs w) (named ds w) → Found (named (c ∷ cs) w) (named (d ∷ ds) w)
-    go true e ih = let q : same (d .spelt) w ≡ true = rw (← k .word) e in rw (e, q, named) (both k)
-    go false e ih = let q : same (d .spelt) w ≡ false = rw (← k .word) e in rw (e, q, named) ih
+    go : (b : Bool) → same (c .spelt) w ≡ b → Found (directive-named cs w) (directive-named ds w) → Found (directive-named (c ∷ cs) w) (directive-named (d ∷ ds) w)
+    go true e ih = let q : same (d .spelt) w ≡ true = rw (← k .word) e in rw (e, q, directive-named) (both k)
+    go false e ih = let q : same (d .spelt) w ≡ false = rw (← k .word) e in rw (e, q, directive-named) ih
 
 -- The rest of a directive's line, behind its word.
 module _ (w : Leaf) where
@@ -121,20 +121,20 @@ module _ (n : ℕ) (lex : List Leaf → List Leaf) where
   line-nil = refl
 
   module _ (t : Leaf) where
-    line-empty : newline t ≡ true → (us : List Leaf) → control-line n lex (t ∷ us) ≡ lined (always Kind.PP_EMPTY) (bump (t ∷ us))
+    line-empty : newline-leaf t ≡ true → (us : List Leaf) → control-line n lex (t ∷ us) ≡ lined (always Kind.PP_EMPTY) (bump (t ∷ us))
     unfolding control-line
     line-empty a us = rw (a, control-line)
 
-    line-group : newline t ≡ false → is Kind.LPAREN t ≡ true → (us : List Leaf) → control-line n lex (t ∷ us) ≡ lined group-kind ((bump then pp-rs-ident t 0) (t ∷ us))
+    line-group : newline-leaf t ≡ false → is Kind.LPAREN t ≡ true → (us : List Leaf) → control-line n lex (t ∷ us) ≡ lined group-kind ((bump then pp-rs-ident t 0) (t ∷ us))
     unfolding control-line group-kind
     line-group a b us = rw (a, b, control-line)
 
-    line-word : (d : Directive) → newline t ≡ false → is Kind.LPAREN t ≡ false → named (directives n lex) (unescaped (t .bytes)) ≡ some d
+    line-word : (d : Directive) → newline-leaf t ≡ false → is Kind.LPAREN t ≡ false → directive-named (directives n lex) (unescaped (t .bytes)) ≡ some d
         → (us : List Leaf) → control-line n lex (t ∷ us) ≡ lined (always (d .node-kind)) (directive t d (t ∷ us))
     unfolding control-line
     line-word d a b c us = rw (a, b, c, control-line)
 
-    line-unknown : newline t ≡ false → is Kind.LPAREN t ≡ false → named (directives n lex) (unescaped (t .bytes)) ≡ none
+    line-unknown : newline-leaf t ≡ false → is Kind.LPAREN t ≡ false → directive-named (directives n lex) (unescaped (t .bytes)) ≡ none
         → (us : List Leaf) → control-line n lex (t ∷ us) ≡ lined (always Kind.ERROR) (unknown t (t ∷ us))
     unfolding control-line
     line-unknown a b c us = rw (a, b, c, control-line)
@@ -144,7 +144,7 @@ module _ (n : ℕ) (again : List Leaf → List Leaf) (recuts : (ts : List Leaf) 
   line-retold [] =
       let e : (us : List Leaf) → Heads [] us → control-line n id us ≡ lined (always Kind.ERROR) (nothing us) = heads-nil _ (line-nil n id) in
       rw (line-nil n again) (retold-lined (control-line n id) (always Kind.ERROR) nothing (nothing []) [] e (retold-steady nothing [] (steady-nothing [])))
-  line-retold (t ∷ ts) = go (newline t) refl (is Kind.LPAREN t) refl
+  line-retold (t ∷ ts) = go (newline-leaf t) refl (is Kind.LPAREN t) refl
     where
       word : List ℕ
       word = unescaped (t .bytes)
@@ -157,7 +157,7 @@ module _ (n : ℕ) (again : List Leaf → List Leaf) (recuts : (ts : List Leaf) 
           → ((us : List Leaf) → control-line n id (t ∷ us) ≡ lined k (q (t ∷ us))) → Retold q (r (t ∷ ts)) (t ∷ ts) → Goal
       case k r q e i h = rw e (retold-lined (control-line n id) k q (r (t ∷ ts)) (t ∷ ts) (heads-cons (λ us. control-line n id us ≡ lined k (q us)) t ts i) h)
 
-      search-word : newline t ≡ false → is Kind.LPAREN t ≡ false → (o o′ : Option Directive) → named (directives n again) word ≡ o → named (directives n id) word ≡ o′ → Found o o′ → Goal
+      search-word : newline-leaf t ≡ false → is Kind.LPAREN t ≡ false → (o o′ : Option Directive) → directive-named (directives n again) word ≡ o → directive-named (directives n id) word ≡ o′ → Found o o′ → Goal
       search-word a b _ _ e e′ neither =
           case (always Kind.ERROR) (unknown t) (unknown t) (line-unknown n again t a b e ts) (line-unknown n id t a b e′) (retold-steady (unknown t) (t ∷ ts) (steady-unknown t (t ∷ ts)))
       search-word a b _ _ e e′ (both {c} {d} k) =
@@ -169,7 +169,7 @@ module _ (n : ℕ) (again : List Leaf → List Leaf) (recuts : (ts : List Leaf) 
           (line-word n id t d a b e′)
           (directive-retold n again recuts t c d k ts)
 
-      go : (a : Bool) → newline t ≡ a → (b : Bool) → is Kind.LPAREN t ≡ b → Goal
+      go : (a : Bool) → newline-leaf t ≡ a → (b : Bool) → is Kind.LPAREN t ≡ b → Goal
       go true a b eb = case (always Kind.PP_EMPTY) bump bump (line-empty n again t a ts) (line-empty n id t a) (retold-steady bump (t ∷ ts) (steady-bump (t ∷ ts)))
       go false a true b =
           let g : Reader = bump then pp-rs-ident t 0 in

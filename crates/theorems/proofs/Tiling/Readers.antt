@@ -7,7 +7,7 @@ use mathlib.Core.Option.{Option, none, some}
 use Rattle.definition.specs.SyntaxKind.{Kind}
 use Rattle.definition.specs.Tree.{Leaf, Forest, nil, leaf, node, _▹_, leaves, row, stop}
 use Rattle.definition.specs.Error.{Err, unexpected, end-of-input}
-use Rattle.definition.specs.Parser.{is, trivia, newline, inline, while, push, raise, Reader, _then_, wrap, nothing, bump, expect-one}
+use Rattle.definition.specs.Parser.{is, trivia, newline-leaf, inline, while, push, raise, Reader, _then_, wrap, nothing, bump, expect-one}
 use Rattle.definition.specs.Syntax.{pp-tokens, trimmed, trailing, body, pp-body, wanted, arg-kinds, push-arg, args, define-args, pp-define, pp-if-ident, pp-version, colon, pp-extension, last-stop, extra, finish, unknown, depth, pp-rs-ident}
 use Rattle.theorems.proofs.Tiling.Leaves.{leaves-pp-tokens, leaves-row, trimmed-trailing}
 use Rattle.theorems.proofs.Tiling.Steady.{Steady-at, Steady, steady-then, steady-over, steady-wrap, steady-raise, steady-still, steady-nothing, steady-while, steady-trivia, steady-like-nil, steady-like-cons, steady-maybe, pushing, steady-push, steady-bump}
@@ -86,21 +86,21 @@ module _ (n : ℕ) where
     unfolding args
     args-good a b c us = rw (a, b, c, args)
 
-    args-line : trivia t ≡ false → is Kind.RPAREN t ≡ false → is (wanted first) t ≡ false → newline t ≡ true
+    args-line : trivia t ≡ false → is Kind.RPAREN t ≡ false → is (wanted first) t ≡ false → newline-leaf t ≡ true
         → (us : List Leaf) → args n first (t ∷ us) ≡ still (unexpected t (arg-kinds first) ∷ []) (t ∷ us)
     unfolding args nothing
     args-line a b c d us = rw (a, b, c, d, args)
 
-    args-bad : trivia t ≡ false → is Kind.RPAREN t ≡ false → is (wanted first) t ≡ false → newline t ≡ false
+    args-bad : trivia t ≡ false → is Kind.RPAREN t ≡ false → is (wanted first) t ≡ false → newline-leaf t ≡ false
         → (us : List Leaf) → args n first (t ∷ us) ≡ raise (unexpected t (arg-kinds first)) (push t (args n (not first) us))
     unfolding args
     args-bad a b c d us = rw (a, b, c, d, args)
 
   pub steady-args : (first : Bool) → Steady (args n first)
   steady-args first [] = steady-like-nil _ _ (args-nil first) (steady-stop _ [])
-  steady-args first (t ∷ ts) = go (trivia t) refl (is Kind.RPAREN t) refl (is (wanted first) t) refl (newline t) refl (λ f. steady-args f ts)
+  steady-args first (t ∷ ts) = go (trivia t) refl (is Kind.RPAREN t) refl (is (wanted first) t) refl (newline-leaf t) refl (λ f. steady-args f ts)
     where
-      go : (a : Bool) → trivia t ≡ a → (b : Bool) → is Kind.RPAREN t ≡ b → (c : Bool) → is (wanted first) t ≡ c → (d : Bool) → newline t ≡ d
+      go : (a : Bool) → trivia t ≡ a → (b : Bool) → is Kind.RPAREN t ≡ b → (c : Bool) → is (wanted first) t ≡ c → (d : Bool) → newline-leaf t ≡ d
           → ((f : Bool) → Steady-at (args n f) ts) → Steady-at (args n first) (t ∷ ts)
       go true ea b eb c ec d ed ih = steady-leaf [] _ (args n first) t ts (args-trivia first t ea) (ih first)
       go false ea true eb c ec d ed ih = steady-leaf [] _ nothing t ts (args-close first t ea eb) (steady-nothing ts)
@@ -123,19 +123,19 @@ module _ (n : ℕ) where
     unfolding colon bump _then_ _▹_
     colon-yes t a us = rw (a, colon)
 
-    colon-line : (t : Leaf) → is Kind.COLON t ≡ false → newline t ≡ true → (us : List Leaf) → colon n r (t ∷ us) ≡ still (unexpected t (Kind.COLON ∷ []) ∷ []) (t ∷ us)
+    colon-line : (t : Leaf) → is Kind.COLON t ≡ false → newline-leaf t ≡ true → (us : List Leaf) → colon n r (t ∷ us) ≡ still (unexpected t (Kind.COLON ∷ []) ∷ []) (t ∷ us)
     unfolding colon nothing
     colon-line t a b us = rw (a, b, colon)
 
-    colon-bad : (t : Leaf) → is Kind.COLON t ≡ false → newline t ≡ false → (us : List Leaf) → colon n r (t ∷ us) ≡ raise (unexpected t (Kind.COLON ∷ [])) (push t (nothing us))
+    colon-bad : (t : Leaf) → is Kind.COLON t ≡ false → newline-leaf t ≡ false → (us : List Leaf) → colon n r (t ∷ us) ≡ raise (unexpected t (Kind.COLON ∷ [])) (push t (nothing us))
     unfolding colon
     colon-bad t a b us = rw (a, b, colon)
 
     pub steady-colon : Steady r → Steady (colon n r)
     steady-colon s [] = steady-like-nil _ _ colon-nil (steady-stop _ [])
-    steady-colon s (t ∷ ts) = go (is Kind.COLON t) refl (newline t) refl
+    steady-colon s (t ∷ ts) = go (is Kind.COLON t) refl (newline-leaf t) refl
       where
-        go : (a : Bool) → is Kind.COLON t ≡ a → (b : Bool) → newline t ≡ b → Steady-at (colon n r) (t ∷ ts)
+        go : (a : Bool) → is Kind.COLON t ≡ a → (b : Bool) → newline-leaf t ≡ b → Steady-at (colon n r) (t ∷ ts)
         go true ea b eb = steady-leaf [] _ r t ts (colon-yes t ea) (s ts)
         go false ea true eb = steady-like-cons _ _ t ts (colon-line t ea eb) (steady-stop _ (t ∷ ts))
         go false ea false eb = steady-leaf (unexpected t (Kind.COLON ∷ []) ∷ []) _ nothing t ts (colon-bad t ea eb) (steady-nothing ts)
@@ -167,7 +167,7 @@ module _ (e : Leaf → ℕ → List Err) where
   unfolding finish
   finish-nil = refl
 
-  finish-line : (t : Leaf) → newline t ≡ true → (us : List Leaf) → finish e (t ∷ us) ≡ bump (t ∷ us)
+  finish-line : (t : Leaf) → newline-leaf t ≡ true → (us : List Leaf) → finish e (t ∷ us) ≡ bump (t ∷ us)
   unfolding finish
   finish-line t a us = rw (a, finish)
 
@@ -175,7 +175,7 @@ module _ (e : Leaf → ℕ → List Err) where
   surplus : Leaf → Reader
   surplus t us = extra (e t (last-stop 0 (while inline us))) us
 
-  finish-extra : (t : Leaf) → newline t ≡ false → (us : List Leaf) → finish e (t ∷ us) ≡ (wrap Kind.ERROR (surplus t) then bump) (t ∷ us)
+  finish-extra : (t : Leaf) → newline-leaf t ≡ false → (us : List Leaf) → finish e (t ∷ us) ≡ (wrap Kind.ERROR (surplus t) then bump) (t ∷ us)
   unfolding finish surplus _then_ wrap
   finish-extra t a us = rw (a, finish)
 
@@ -185,9 +185,9 @@ module _ (e : Leaf → ℕ → List Err) where
 
   pub steady-finish : Steady (finish e)
   steady-finish [] = steady-like-nil _ _ finish-nil (steady-nothing [])
-  steady-finish (t ∷ ts) = go (newline t) refl
+  steady-finish (t ∷ ts) = go (newline-leaf t) refl
     where
-      go : (b : Bool) → newline t ≡ b → Steady-at (finish e) (t ∷ ts)
+      go : (b : Bool) → newline-leaf t ≡ b → Steady-at (finish e) (t ∷ ts)
       go true q = steady-like-cons _ _ t ts (finish-line t q) (steady-bump (t ∷ ts))
       go false q = steady-like-cons _ _ t ts (finish-extra t q) (steady-then _ _ (steady-wrap _ _ (steady-surplus t)) steady-bump (t ∷ ts))
 

@@ -1,7 +1,7 @@
 -- `eat_trivia` writes the leaves before a place.
 use lib.ListN.{length}
 use Rattle.text.proofs.Cases.{cases}
-use Rattle.parser.specs.Rest.{rest-of}
+use Rattle.parser.specs.Rest.{unread}
 use Rattle.parser.specs.Passed.{before}
 use Rattle.parser.proofs.Taking.{Writing, write-start, write-long}
 use Rattle.parser.proofs.Passing.{eat-past, eat-end, eat-more, eat-fewer, eat-stop, eat-long}
@@ -12,7 +12,7 @@ abbrev Inv-loop : tie.InvT-loop
 Inv-loop src classes table₀ stop held₀ x₀ table held x = Writing src (before stop) table₀ held₀ x₀ table held x
 
 abbrev μ-loop : tie.MeasureT-loop
-μ-loop src classes table₀ stop held₀ x₀ table held x = length (rest-of src x)
+μ-loop src classes table₀ stop held₀ x₀ table held x = length (unread src x)
 
 pub eat-trivia-spec : {M : Type 1} → statement M
 eat-trivia-spec = tie.close (tie.spec

@@ -7,7 +7,7 @@ use native.Mathlib.Omega.{arith}
 use lib.ListN.{length, take, drop, getD}
 use borrow.Author.Tests.{lt-ltb, le-ltb}
 use Rattle.definition.specs.Pre.{begin, flag}
-use Rattle.theorems.specs.Walk.{named}
+use Rattle.theorems.specs.Walk.{name-kind}
 use Rattle.text.proofs.Cases.{cases}
 use Rattle.pre.specs.Scan.{from, first, pre-step, pre-next}
 use Rattle.pre.specs.declared.token.Token as read
@@ -23,7 +23,7 @@ module _ (l : PreLexer) (s : List ℕ) where
   ended h = rw (le-ltb (l .at) (length s) h)
 
   one : (t : read.Token) (k : ℕ) (f : Bool) → l .at < length s → t ≡ first l s
-      → k ≡ named (t .kind) (take (t .end - l .at) (drop (l .at) s)) → f ≡ flag (l .angle) (getD s (l .at) 0)
+      → k ≡ name-kind (t .kind) (take (t .end - l .at) (drop (l .at) s)) → f ≡ flag (l .angle) (getD s (l .at) 0)
       → Token (record { kind = k; next = record { at = t .end; angle = f } }) ≡ pre-next l s
   unfolding pre-step pre-next
   one t k f h e p q = rw (lt-ltb (l .at) (length s) h, ← e, p, q)

@@ -3,12 +3,12 @@ use mathlib.Core.Path.{refl}
 use Rattle.definition.specs.Text.{ascii}
 use Rattle.definition.specs.Newline.{class}
 use Rattle.definition.specs.Pre.{find}
-use Rattle.pre.specs.Table.{punct, entry, entry-of, class-table}
+use Rattle.pre.specs.Table.{punct, class-number, class-number-of, class-table}
 use Rattle.pre.proofs.class.class_table.Statement.{statement}
 use Rattle.pre.proofs.class.class_table.Tie as tie
 
 returns : tie.Need-returns
-unfolding class-table entry entry-of class punct find ascii
+unfolding class-table class-number class-number-of class punct find ascii
 returns c = refl
 
 pub class-table-spec : {M : Type 1} → statement M

@@ -17,7 +17,7 @@ use Rattle.theorems.proofs.Lexing.Walk.{zero-none}
 use Rattle.text.specs.Newline.{newline-len}
 use Rattle.text.proofs.Newlines as newlines
 use Rattle.text.proofs.Cases.{cases}
-use Rattle.pre.specs.Table.{Entry, entry}
+use Rattle.pre.specs.Table.{ClassNumber, class-number}
 use Rattle.pre.specs.Scan.{from, width-at}
 use Rattle.pre.proofs.Classes.{closed-is, no-newline}
 use Rattle.pre.proofs.States.{single-goes, single-stops}
@@ -36,12 +36,12 @@ module _ (s : List ℕ) (at i : ℕ) (k : Same s single-comment at single-commen
   ended h = same-end s single-comment at single-comment i k h
 
   module _ (h : i < length s) where
-    module _ (r : ℕ) (e : r ≡ entry (getD s i 0)) where
-      stops : r ≡ Entry.NEWLINE → token Kind.COMMENT i ≡ from single-comment 0 at s
+    module _ (r : ℕ) (e : r ≡ class-number (getD s i 0)) where
+      stops : r ≡ ClassNumber.NEWLINE → token Kind.COMMENT i ≡ from single-comment 0 at s
       unfolding kind-of
       stops z = same-stop s single-comment at single-comment i k h (single-stops _ r e z)
 
-      goes : (r ≡ Entry.NEWLINE → ⊥) → (getD s i 0 ≡ byte "\\" → ⊥) → Same s single-comment at single-comment (i + 1)
+      goes : (r ≡ ClassNumber.NEWLINE → ⊥) → (getD s i 0 ≡ byte "\\" → ⊥) → Same s single-comment at single-comment (i + 1)
       goes z n = same-by s single-comment at single-comment i k h single-comment (single-goes _ r e z n) (any-line (getD s i 0) (i + 1) s (no-newline _ r e z))
 
     module _ (b : getD s i 0 ≡ byte "\\") where

@@ -13,7 +13,7 @@ use Rattle.definition.specs.Newline.{chars}
 use Rattle.definition.specs.Pre.{State, digits, backslash, in-digits, kind-of, more}
 use Rattle.text.specs.Newline.{newline-len}
 use Rattle.text.proofs.Cases.{cases}
-use Rattle.pre.specs.Table.{Entry, entry}
+use Rattle.pre.specs.Table.{ClassNumber, class-number}
 use Rattle.pre.specs.Scan.{from, takes-point}
 use Rattle.pre.proofs.Classes.{closed-word}
 use Rattle.pre.proofs.States.{digits-digit, digits-letter, digits-take, digits-backslash, digits-stops, closed-point}
@@ -27,15 +27,15 @@ module _ (s : List ℕ) (q₀ : State) (at i : ℕ) (e d : Bool) (k : Same s q�
   unfolding kind-of
   ended h = same-end s q₀ at (digits e d) i k h
 
-  module _ (h : i < length s) (r : ℕ) (x : r ≡ entry (getD s i 0)) where
-    digit : r ≡ Entry.DIGIT → Same s q₀ at (digits e d) (i + 1)
+  module _ (h : i < length s) (r : ℕ) (x : r ≡ class-number (getD s i 0)) where
+    digit : r ≡ ClassNumber.DIGIT → Same s q₀ at (digits e d) (i + 1)
     digit z = same-go s q₀ at (digits e d) i k h (digits e d) (closed-word _ r x (omega arith)) (digits-digit _ r x e d z)
 
-    letter : (e′ : Bool) → e′ ≡ (eqb (getD s i 0) (byte "e") || eqb (getD s i 0) (byte "E")) → r ≡ Entry.LETTER → Same s q₀ at (digits e′ d) (i + 1)
+    letter : (e′ : Bool) → e′ ≡ (eqb (getD s i 0) (byte "e") || eqb (getD s i 0) (byte "E")) → r ≡ ClassNumber.LETTER → Same s q₀ at (digits e′ d) (i + 1)
     letter e′ y z = rw y (same-go s q₀ at (digits e d) i k h _ (closed-word _ r x (omega arith)) (digits-letter _ r x e d z))
 
-    module _ (n₁ : r ≡ Entry.DIGIT → ⊥) (n₀ : r ≡ Entry.LETTER → ⊥) (t : Bool) (y : t ≡ takes-point (getD s i 0) e d) where
-      high : Entry.NEWLINE ≤ r
+    module _ (n₁ : r ≡ ClassNumber.DIGIT → ⊥) (n₀ : r ≡ ClassNumber.LETTER → ⊥) (t : Bool) (y : t ≡ takes-point (getD s i 0) e d) where
+      high : ClassNumber.NEWLINE ≤ r
       high = omega arith
 
       point : (d′ : Bool) → d′ ≡ (eqb (getD s i 0) (byte ".") || d) → t ≡ true → Same s q₀ at (digits e d′) (i + 1)

@@ -9,7 +9,7 @@ use Rattle.definition.specs.Newline.{chars}
 use Rattle.definition.specs.Pre.{ident, in-ident, kind-of, more}
 use Rattle.text.specs.Newline.{newline-len}
 use Rattle.text.proofs.Cases.{cases}
-use Rattle.pre.specs.Table.{Entry, entry}
+use Rattle.pre.specs.Table.{ClassNumber, class-number}
 use Rattle.pre.specs.Scan.{from}
 use Rattle.pre.proofs.Classes.{closed-is, closed-word}
 use Rattle.pre.proofs.States.{ident-goes, ident-stops}
@@ -37,11 +37,11 @@ module _ (s : List ℕ) (at i : ℕ) (k : Same s ident at ident i) where
       unfolding more
       cont z = same-cont s ident at ident i k h in-ident e refl back-ident w v z
 
-    module _ (r : ℕ) (e : r ≡ entry (getD s i 0)) where
-      goes : r < Entry.NEWLINE → Same s ident at ident (i + 1)
+    module _ (r : ℕ) (e : r ≡ class-number (getD s i 0)) where
+      goes : r < ClassNumber.NEWLINE → Same s ident at ident (i + 1)
       goes z = same-go s ident at ident i k h ident (closed-word _ r e z) (ident-goes _ r e z)
 
-      stops : Entry.NEWLINE ≤ r → (getD s i 0 ≡ byte "_" → ⊥) → (getD s i 0 ≡ byte "\\" → ⊥) → token Kind.IDENT_KW i ≡ from ident 0 at s
+      stops : ClassNumber.NEWLINE ≤ r → (getD s i 0 ≡ byte "_" → ⊥) → (getD s i 0 ≡ byte "\\" → ⊥) → token Kind.IDENT_KW i ≡ from ident 0 at s
       unfolding kind-of
       stops z n m = same-stop s ident at ident i k h (ident-stops _ r e z n m)
 

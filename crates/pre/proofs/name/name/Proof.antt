@@ -12,7 +12,7 @@ use Rattle.definition.specs.Text.{ascii, byte, same}
 use Rattle.definition.specs.SyntaxKind.{Kind}
 use Rattle.definition.specs.Unescaped.{unescaped}
 use Rattle.definition.specs.Glue.{defined}
-use Rattle.theorems.specs.Walk.{named}
+use Rattle.theorems.specs.Walk.{name-kind}
 use Rattle.theorems.proofs.Lexing.Unescapes.{unescaped-other}
 use Rattle.text.proofs.Cases.{cases}
 use Rattle.theorems.proofs.Grammar.Clean.{or-left, or-right}
@@ -21,21 +21,21 @@ use Rattle.pre.proofs.name.name.Tie as tie
 
 module _ (k : ℕ) (xs : List ℕ) where
   module _ (r : Bool) (z : k ≡ Kind.IDENT_KW) (e : r ≡ same (unescaped xs) defined) where
-    yes : r ≡ true → Kind.DEFINED ≡ named k xs
-    unfolding named
+    yes : r ≡ true → Kind.DEFINED ≡ name-kind k xs
+    unfolding name-kind
     yes p = rw (z, ← e, p)
 
-    no : r ≡ false → Kind.IDENT_KW ≡ named k xs
-    unfolding named
+    no : r ≡ false → Kind.IDENT_KW ≡ name-kind k xs
+    unfolding name-kind
     no p = rw (z, ← e, p)
 
-  other : (k ≡ Kind.IDENT_KW → ⊥) → k ≡ named k xs
-  unfolding named
+  other : (k ≡ Kind.IDENT_KW → ⊥) → k ≡ name-kind k xs
+  unfolding name-kind
   other n = rw (ne-eqb k Kind.IDENT_KW n)
 
 -- A text that begins with neither a d nor a backslash is not `defined`.
 never : (s : List ℕ) (at e k : ℕ) (r : Bool) → at < e → e ≤ length s → k ≡ Kind.IDENT_KW
-    → r ≡ (eqb (getD s at 0) (byte "d") || eqb (getD s at 0) (byte "\\")) → r ≡ false → Kind.IDENT_KW ≡ named k (take (e - at) (drop at s))
+    → r ≡ (eqb (getD s at 0) (byte "d") || eqb (getD s at 0) (byte "\\")) → r ≡ false → Kind.IDENT_KW ≡ name-kind k (take (e - at) (drop at s))
 unfolding same ascii
 never s at e k r h l z p q =
     let b : ℕ = getD s at 0 in

@@ -7,7 +7,7 @@ use Rattle.definition.specs.Text.{ascii, byte}
 use Rattle.definition.specs.SyntaxKind.{Kind}
 use Rattle.definition.specs.Pre.{State, done, slash, ident, quote-string, angle-string, backslash, alone, begin, find}
 use Rattle.text.proofs.Cases.{cases}
-use Rattle.pre.specs.Table.{entry}
+use Rattle.pre.specs.Table.{class-number}
 use Rattle.pre.specs.Scan.{from}
 use Rattle.pre.specs.declared.token.Token.{Token}
 use Rattle.pre.proofs.Classes.{closed, closed-is, says, closed-punct}
@@ -43,7 +43,7 @@ module _ (s : List ℕ) (at b : ℕ) (f : Bool) where
   to-backslash : (r : Token) → r ≡ from (backslash alone) 0 (at + 1) s → b ≡ byte "\\" → r ≡ from (begin f b) b (at + 1) s
   to-backslash r e p = by (backslash alone) (byte "\\") r e p refl (begin-backslash f)
 
-  module _ (k : ℕ) (h : Kind.PERIOD ≤ k) (c : k ≡ entry b) (n : Plain b) where
+  module _ (k : ℕ) (h : Kind.PERIOD ≤ k) (c : k ≡ class-number b) (n : Plain b) where
     begun : begin f b ≡ done k
     begun = rw (says b k c .punct-is h) (begin-punct b k f c h n)
 

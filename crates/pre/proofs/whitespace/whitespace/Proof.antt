@@ -6,7 +6,7 @@ use lib.ListN.{length, getD}
 use Rattle.definition.specs.SyntaxKind.{Kind}
 use Rattle.definition.specs.Pre.{whitespace, kind-of}
 use Rattle.text.proofs.Cases.{cases}
-use Rattle.pre.specs.Table.{Entry, entry}
+use Rattle.pre.specs.Table.{ClassNumber, class-number}
 use Rattle.pre.specs.Scan.{from}
 use Rattle.pre.proofs.Classes.{closed-blank}
 use Rattle.pre.proofs.States.{whitespace-goes, whitespace-stops}
@@ -20,11 +20,11 @@ module _ (s : List ℕ) (at i : ℕ) (k : Same s whitespace at whitespace i) whe
   unfolding kind-of
   ended h = same-end s whitespace at whitespace i k h
 
-  module _ (r : ℕ) (h : i < length s) (e : r ≡ entry (getD s i 0)) where
-    goes : r ≡ Entry.WS → Same s whitespace at whitespace (i + 1)
+  module _ (r : ℕ) (h : i < length s) (e : r ≡ class-number (getD s i 0)) where
+    goes : r ≡ ClassNumber.WS → Same s whitespace at whitespace (i + 1)
     goes z = same-go s whitespace at whitespace i k h whitespace (closed-blank _ r e z) (whitespace-goes _ r e z)
 
-    stops : (r ≡ Entry.WS → ⊥) → token Kind.WS i ≡ from whitespace 0 at s
+    stops : (r ≡ ClassNumber.WS → ⊥) → token Kind.WS i ≡ from whitespace 0 at s
     unfolding kind-of
     stops z = same-stop s whitespace at whitespace i k h (whitespace-stops _ r e z)
 

@@ -5,7 +5,7 @@ use mathlib.Core.Path.{_≡_, refl, sym, ap, _∙_}
 use mathlib.Core.List.{List, []}
 use lib.ListN.{length, drop, getD}
 use Rattle.definition.specs.Utf8.{left}
-use Rattle.text.specs.Utf8.{wants, wanted, after, told, passes}
+use Rattle.text.specs.Utf8.{wants, next-wants, wanted-after, told, passes}
 use Rattle.text.specs.declared.utf8.State.{State}
 use Rattle.text.specs.declared.utf8.State.the-variants.{Start}
 use Rattle.text.specs.declared.utf8.Next.{Next}
@@ -26,11 +26,11 @@ start : (src : List ℕ) → Checking src Start 0
 start src = record { within = omega arith; rest = refl }
 
 module _ (src : List ℕ) (s : State) (i : ℕ) (k : Checking src s i) where
-  further : (n : Next) → i < length src → wanted n ≡ after (wants s) (getD src i 0) → left [] src ≡ go-on (wanted n) (drop (i + 1) src)
+  further : (n : Next) → i < length src → next-wants n ≡ wanted-after (wants s) (getD src i 0) → left [] src ≡ go-on (next-wants n) (drop (i + 1) src)
   further n h e = k .rest ∙ left-more src (wants s) i h ∙ ap (λ o. go-on o (drop (i + 1) src)) (sym e)
 
-  wanted-byte : (n : Next) (t : State) → i < length src → wanted n ≡ after (wants s) (getD src i 0) → n ≡ To t → Checking src t (i + 1)
-  wanted-byte n t h e q = record { within = omega arith; rest = further n h e ∙ ap (λ n. go-on (wanted n) (drop (i + 1) src)) q }
+  wanted-byte : (n : Next) (t : State) → i < length src → next-wants n ≡ wanted-after (wants s) (getD src i 0) → n ≡ To t → Checking src t (i + 1)
+  wanted-byte n t h e q = record { within = omega arith; rest = further n h e ∙ ap (λ n. go-on (next-wants n) (drop (i + 1) src)) q }
 
   -- Bytes of ASCII are passed over.
   passed-over : (w : ℕ) → w ≡ passes s src i → 0 < w → Checking src s (i + w)
@@ -42,8 +42,8 @@ module _ (src : List ℕ) (s : State) (i : ℕ) (k : Checking src s i) where
   over-nearer : (w : ℕ) → w ≡ passes s src i → 0 < w → length src - (i + w) < length src - i
   over-nearer w e h = omega (arith, over-within w e h)
 
-  unwanted-byte : (n : Next) → i < length src → wanted n ≡ after (wants s) (getD src i 0) → n ≡ Unwanted → told Broken ≡ left [] src
-  unwanted-byte n h e q = sym (further n h e ∙ ap (λ n. go-on (wanted n) (drop (i + 1) src)) q)
+  unwanted-byte : (n : Next) → i < length src → next-wants n ≡ wanted-after (wants s) (getD src i 0) → n ≡ Unwanted → told Broken ≡ left [] src
+  unwanted-byte n h e q = sym (further n h e ∙ ap (λ n. go-on (next-wants n) (drop (i + 1) src)) q)
 
   no-byte : (l : Left) → length src ≤ i → told l ≡ left (wants s) [] → told l ≡ left [] src
   no-byte l h e = e ∙ sym (k .rest ∙ left-end src (wants s) i h)

@@ -1,13 +1,13 @@
 -- `first` goes on as the forms say: its arms are ranges of first bytes that the forms treat alike.
 use native.Mathlib.Omega.{arith}
 use mathlib.Core.Path.{refl}
-use Rattle.definition.specs.Utf8.{forms}
+use Rattle.definition.specs.Utf8.{char-forms}
 use Rattle.text.proofs.Utf8s.{follow-range, first-in}
 use Rattle.text.proofs.utf8.first.Statement.{statement}
 use Rattle.text.proofs.utf8.first.Tie as tie
 
 pub first-spec : {M : Type 1} → statement M
-unfolding follow-range forms
+unfolding follow-range char-forms
 first-spec =
     tie.close
     (tie.spec

@@ -1,11 +1,11 @@
 -- `step` goes on as what its state wants says.
 use borrow.Author.Needs.{needs}
-use Rattle.text.specs.Utf8.{after}
+use Rattle.text.specs.Utf8.{wanted-after}
 use Rattle.text.proofs.utf8.step.Statement.{statement}
 use Rattle.text.proofs.utf8.step.Tie as tie
 
 pub step-spec : {M : Type 1} → statement M
-unfolding after
+unfolding wanted-after
 step-spec =
     tie.close
     (tie.spec

@@ -11,8 +11,8 @@ use Rattle.definition.specs.Glue.{tokens}
 use Rattle.definition.specs.Tree.{Leaf, placed}
 
 -- The leaves from `at` on; the flag says whether an angle string is expected there.
-unfoldable pub left : List ℕ → ℕ → Bool → List Leaf
-left src at flag = placed at (tokens flag (drop at src))
+unfoldable pub leaves-from : List ℕ → ℕ → Bool → List Leaf
+leaves-from src at flag = placed at (tokens flag (drop at src))
 
 -- The kind of a leaf whose token has the kind k: a continuation becomes a WS leaf.
 abbrev pub leaf-kind : ℕ → ℕ

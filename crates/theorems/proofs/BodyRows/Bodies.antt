@@ -6,10 +6,10 @@ use mathlib.Core.List.{List, [], _∷_, _++_}
 use Rattle.definition.specs.Tree.{Leaf, row, _▹_}
 use Rattle.definition.specs.Parser.{trivia, inline, while, after, peek, _then_, wrap, skip, skip-trivia}
 use Rattle.definition.specs.Syntax.{all-trivia, trailing, body, pp-body}
-use Rattle.theorems.specs.Rows.{row-line-by, row-line}
+use Rattle.theorems.specs.BodyRows.{row-line-by, row-line}
 use Rattle.theorems.proofs.Tiling.Leaves.{while-yes, while-stop, after-yes, after-stop}
 use Rattle.theorems.proofs.Grammar.Clean.{trivia-inline, peek-after}
-use Rattle.theorems.proofs.Rows.Whole.{row-whole, trailing-trivia}
+use Rattle.theorems.proofs.BodyRows.Whole.{row-whole, trailing-trivia}
 
 -- No trivia stands where no leaf of the line does.
 outside : (ts : List Leaf) → peek inline ts ≡ false → peek trivia ts ≡ false

@@ -15,7 +15,7 @@ use Rattle.definition.specs.Glue.{Token, tokens, flat, glued, glues}
 use Rattle.definition.specs.Tree.{placed}
 use Rattle.theorems.specs.Walk.{walk, pre-tokens, pre-token}
 use Rattle.theorems.specs.Step.{glue-begin, glue-more}
-use Rattle.theorems.specs.Rows.{Known}
+use Rattle.theorems.specs.BodyRows.{Known}
 use Rattle.theorems.proofs.Lexing.Walk.{pre-tokens-cons, pre-tokens-nil}
 use Rattle.theorems.proofs.Lexing.Sorts.{named-some}
 use Rattle.theorems.proofs.Lexing.Glues.{never-zero}

@@ -4,15 +4,15 @@ use mathlib.Core.Bool.{Bool, true, false, not, true≢false}
 use mathlib.Core.List.{List, [], _∷_, _++_}
 use Rattle.definition.specs.SyntaxKind.{Kind}
 use Rattle.definition.specs.Tree.{Leaf, Forest, nil, leaf, node}
-use Rattle.definition.specs.Parser.{is, trivia, newline, inline, while, after, peek, push, Reader, wrap, nothing}
+use Rattle.definition.specs.Parser.{is, trivia, newline-leaf, inline, while, after, peek, push, Reader, wrap, nothing}
 use Rattle.definition.specs.Syntax.{nest, wrapped, pasted, pp-tokens-from, pp-tokens, all-trivia, trimmed, trailing}
-use Rattle.theorems.specs.Rows.{ahead, op-ahead, ended, under, concat-rest, pasting, tokens-rest, row-reader}
+use Rattle.theorems.specs.BodyRows.{ahead, op-ahead, ended, under, concat-rest, pasting-rest, tokens-rest, row-reader}
 use Rattle.theorems.proofs.Tiling.Leaves.{while-yes, while-stop, after-yes, while-after}
 use Rattle.theorems.proofs.Grammar.Clean.{trivia-inline}
-use Rattle.theorems.proofs.Rows.Ahead.{op-ahead-trivia, op-ahead-token, ended-trivia, ended-token, trivia-plain, op-goes-on, goes-on-inline}
-use Rattle.theorems.proofs.Rows.Cases.{concat-rest-ended, concat-rest-plain, concat-rest-op, pasting-trivia, pasting-op, tokens-rest-ended, tokens-rest-trivia, tokens-rest-plain, tokens-rest-paste, row-paste, row-plain}
+use Rattle.theorems.proofs.BodyRows.Ahead.{op-ahead-trivia, op-ahead-token, ended-trivia, ended-token, trivia-plain, op-goes-on, goes-on-inline}
+use Rattle.theorems.proofs.BodyRows.Cases.{concat-rest-ended, concat-rest-plain, concat-rest-op, pasting-trivia, pasting-op, tokens-rest-ended, tokens-rest-trivia, tokens-rest-plain, tokens-rest-paste, row-paste, row-plain}
 
--- The row up to the newline without its trailing trivia, and all that stands behind it.
+-- The row up to the newline-leaf without its trailing trivia, and all that stands behind it.
 abbrev pub line : List Leaf → List Leaf
 line ts = while inline ts
 
@@ -29,9 +29,9 @@ rowed f ts = record { tree = f (kept ts); errs = []; rest = behind ts }
 ended-line : (ts : List Leaf) → all-trivia (line ts) ≡ ended ts
 unfolding ended all-trivia while peek
 ended-line [] = refl
-ended-line (t ∷ ts) = go (trivia t) refl (newline t) refl (ended-line ts)
+ended-line (t ∷ ts) = go (trivia t) refl (newline-leaf t) refl (ended-line ts)
   where
-    go : (a : Bool) → trivia t ≡ a → (b : Bool) → newline t ≡ b → all-trivia (line ts) ≡ ended ts → all-trivia (line (t ∷ ts)) ≡ ended (t ∷ ts)
+    go : (a : Bool) → trivia t ≡ a → (b : Bool) → newline-leaf t ≡ b → all-trivia (line ts) ≡ ended ts → all-trivia (line (t ∷ ts)) ≡ ended (t ∷ ts)
     go true q b k ih = rw (ended-trivia t ts q, while-yes inline t ts (trivia-inline t q), q, all-trivia) ih
     go false q true k ih = rw (ended-token t ts q, while-stop inline (t ∷ ts) (ap not k)) (sym k)
     go false q false k ih = rw (ended-token t ts q, while-yes inline t ts (ap not k), q, all-trivia) (sym k)
@@ -142,7 +142,7 @@ concat-rest-row (t ∷ ts) = go (ended (t ∷ ts)) refl (is Kind.PP_CONCAT_OP t)
     go false e false k ih = concat-rest-plain t ts e k ∙ ap (push t) ih ∙ sym (rowed-more nest nest (leaf t) t ts e (nest-plain t (kept ts) k))
 
 -- From the trivia before the first ##.
-pub pasting-row : (ts : List Leaf) → op-ahead ts ≡ true → pasting ts ≡ rowed wrapped ts
+pub pasting-row : (ts : List Leaf) → op-ahead ts ≡ true → pasting-rest ts ≡ rowed wrapped ts
 unfolding ahead
 pasting-row [] k = absurd (true≢false (sym k))
 pasting-row (t ∷ ts) k = go (trivia t) refl (pasting-row ts)
@@ -150,7 +150,7 @@ pasting-row (t ∷ ts) k = go (trivia t) refl (pasting-row ts)
     e : ended (t ∷ ts) ≡ false
     e = op-goes-on (t ∷ ts) k
 
-    go : (b : Bool) → trivia t ≡ b → (op-ahead ts ≡ true → pasting ts ≡ rowed wrapped ts) → pasting (t ∷ ts) ≡ rowed wrapped (t ∷ ts)
+    go : (b : Bool) → trivia t ≡ b → (op-ahead ts ≡ true → pasting-rest ts ≡ rowed wrapped ts) → pasting-rest (t ∷ ts) ≡ rowed wrapped (t ∷ ts)
     go true q ih =
         pasting-trivia concat-rest t ts q ∙ ap (push t) (ih (sym (op-ahead-trivia t ts q) ∙ k))
         ∙ sym (rowed-more wrapped wrapped (leaf t) t ts e (wrapped-plain t (kept ts) (trivia-plain t q)))

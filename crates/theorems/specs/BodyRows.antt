@@ -1,7 +1,7 @@
 -- A body's row read leaf by leaf, as code reads it: no row is cut off or trimmed first.
 use Rattle.definition.specs.Text.{ℕ, zero, suc, Bool, true, _||_, List, [], _∷_, _≡_, eqb, if_then_else_, Kind}
 use Rattle.definition.specs.Tree.{Leaf, nil, node, leaves}
-use Rattle.definition.specs.Parser.{is, trivia, newline, Got, push, Reader, _then_, wrap, skip-trivia, nothing, bump}
+use Rattle.definition.specs.Parser.{is, trivia, newline-leaf, Got, push, Reader, _then_, wrap, skip-trivia, nothing, bump}
 
 -- The kind of the first leaf that is no trivia, 0 if there is none, and the kinds that end a row.
 unfoldable pub ahead : List Leaf → ℕ
@@ -18,7 +18,7 @@ op-ahead ts = eqb (ahead ts) Kind.PP_CONCAT_OP
 -- Whether only trivia stands before the newline or the end.
 unfoldable pub ended : List Leaf → Bool
 ended [] = true
-ended (t ∷ ts) = if trivia t then ended ts else newline t
+ended (t ∷ ts) = if trivia t then ended ts else newline-leaf t
 
 -- Leaves whose kind is not 0: there `ends (ahead ts)` is `ended ts`.
 unfoldable pub Known : List Leaf → Type 0
@@ -80,8 +80,8 @@ module _ (r : Reader) where
 abbrev pub concat : Reader
 concat = concat-by concat-rest
 
-abbrev pub pasting : Reader
-pasting = pasting-by concat-rest
+abbrev pub pasting-rest : Reader
+pasting-rest = pasting-by concat-rest
 
 abbrev pub tokens-rest : Reader
 tokens-rest = tokens-rest-by concat-rest

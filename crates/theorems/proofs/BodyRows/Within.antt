@@ -7,10 +7,10 @@ use native.Mathlib.Omega.{arith}
 use Rattle.definition.specs.SyntaxKind.{Kind}
 use Rattle.definition.specs.Tree.{Leaf, leaves, concat-ops}
 use Rattle.definition.specs.Parser.{is, trivia, inline, while, Got, push, Reader, wrap}
-use Rattle.theorems.specs.Rows.{ahead, op-ahead, ended, under, concat-rest, concat-rest-within, pasting-by, tokens-rest-by, row-reader-by, row-reader, row-reader-within, Alike}
-use Rattle.theorems.proofs.Rows.Ahead.{op-ahead-trivia, op-ahead-token, op-goes-on}
-use Rattle.theorems.proofs.Rows.Cases.{concat-rest-ended, concat-rest-plain, concat-rest-op, within-ended, within-plain, within-op, pasting-trivia, pasting-op, tokens-rest-ended, tokens-rest-trivia, tokens-rest-plain, tokens-rest-paste, row-paste, row-plain}
-use Rattle.theorems.proofs.Rows.Whole.{line, line-more}
+use Rattle.theorems.specs.BodyRows.{ahead, op-ahead, ended, under, concat-rest, concat-rest-within, pasting-by, tokens-rest-by, row-reader-by, row-reader, row-reader-within, Alike}
+use Rattle.theorems.proofs.BodyRows.Ahead.{op-ahead-trivia, op-ahead-token, op-goes-on}
+use Rattle.theorems.proofs.BodyRows.Cases.{concat-rest-ended, concat-rest-plain, concat-rest-op, within-ended, within-plain, within-op, pasting-trivia, pasting-op, tokens-rest-ended, tokens-rest-trivia, tokens-rest-plain, tokens-rest-paste, row-paste, row-plain}
+use Rattle.theorems.proofs.BodyRows.Whole.{line, line-more}
 
 -- How many ## a line has, leaf by leaf.
 module _ (t : Leaf) (ts : List Leaf) (e : ended (t ∷ ts) ≡ false) where

@@ -14,7 +14,7 @@ use Rattle.definition.specs.Parser.{wrap}
 use Rattle.definition.specs.Syntax.{file, relexed, parse}
 use Rattle.theorems.specs.Placed.{Placed}
 use Rattle.theorems.specs.Step.{Stepped}
-use Rattle.theorems.specs.Left.{left, leaf-kind, leaf-between}
+use Rattle.theorems.specs.LeavesFrom.{leaves-from, leaf-kind, leaf-between}
 use Rattle.theorems.proofs.Entries.{slice-take}
 use Rattle.theorems.proofs.Lexing.Tokens.{joined-tokens}
 use Rattle.theorems.proofs.Lexing.PreAt.{tokens-over}
@@ -34,12 +34,12 @@ module _ (s : List ℕ) (at : ℕ) (f : Bool) (k e : ℕ) (g : Bool) (u : Steppe
       sym (ap (λ x. slice at x s) (u .end-is) ∙ slice-take at (length word) s ∙ ap (take (length word)) behind-word ∙ take-append-seam word (drop e s))
 
   -- and its leaf is the first of what is left.
-  pub left-token : left s at f ≡ record { kind = leaf-kind k; start = at; bytes = word } ∷ left s e g
-  unfolding left placed
-  left-token = ap (placed at) (u .is) ∙ rw (u .kind-is, ← u .end-is) refl
+  pub leaves-token : leaves-from s at f ≡ record { kind = leaf-kind k; start = at; bytes = word } ∷ leaves-from s e g
+  unfolding leaves-from placed
+  leaves-token = ap (placed at) (u .is) ∙ rw (u .kind-is, ← u .end-is) refl
 
-  pub left-step : left s at f ≡ leaf-between s k at e ∷ left s e g
-  left-step = left-token ∙ ap (λ l. record { kind = leaf-kind k; start = at; bytes = l } ∷ left s e g) text-between
+  pub leaves-step : leaves-from s at f ≡ leaf-between s k at e ∷ leaves-from s e g
+  leaves-step = leaves-token ∙ ap (λ l. record { kind = leaf-kind k; start = at; bytes = l } ∷ leaves-from s e g) text-between
 
   -- The leaf ends where the others begin.
   pub stop-between : stop (leaf-between s k at e) ≡ e
@@ -48,24 +48,24 @@ module _ (s : List ℕ) (at : ℕ) (f : Bool) (k e : ℕ) (g : Bool) (u : Steppe
 -- At any place and with any flag.
 module _ (s : List ℕ) (at : ℕ) (f : Bool) where
   -- At the end of the source nothing is left.
-  pub left-over : length s ≤ at → left s at f ≡ []
-  unfolding left placed
-  left-over h = ap (placed at) (tokens-over f s at h)
+  pub leaves-over : length s ≤ at → leaves-from s at f ≡ []
+  unfolding leaves-from placed
+  leaves-over h = ap (placed at) (tokens-over f s at h)
 
   -- What is left joins to the rest of the source,
-  pub left-bytes : bytes (left s at f) ≡ drop at s
-  unfolding left
-  left-bytes = bytes-placed at (tokens f (drop at s)) ∙ joined-tokens f (drop at s)
+  pub leaves-bytes : bytes (leaves-from s at f) ≡ drop at s
+  unfolding leaves-from
+  leaves-bytes = bytes-placed at (tokens f (drop at s)) ∙ joined-tokens f (drop at s)
 
   -- and lies from there on.
-  pub left-lies : Placed at (left s at f)
-  unfolding left
-  left-lies = placed-lies at (tokens f (drop at s))
+  pub leaves-lies : Placed at (leaves-from s at f)
+  unfolding leaves-from
+  leaves-lies = placed-lies at (tokens f (drop at s))
 
   -- Where nothing is left the source is at its end.
-  pub left-none : left s at f ≡ [] → length s ≤ at
+  pub leaves-none : leaves-from s at f ≡ [] → length s ≤ at
   unfolding bytes
-  left-none h = omega (arith, length-drop at s, ap length (sym left-bytes ∙ ap bytes h))
+  leaves-none h = omega (arith, length-drop at s, ap length (sym leaves-bytes ∙ ap bytes h))
 
 -- Leaves of tokens, lexed again with an angle string expected.
 relexed-placed : (at : ℕ) (ts : List Token) → relexed (placed at ts) ≡ placed at (tokens true (joined ts))
@@ -73,11 +73,11 @@ unfolding relexed placed joined
 relexed-placed at [] = ap (placed at) (sym (tokens-over true [] 0 (omega arith)))
 relexed-placed at (t ∷ ts) = ap (λ l. placed at (tokens true l)) (bytes-placed at (t ∷ ts))
 
-pub relexed-left : (s : List ℕ) (at : ℕ) (g : Bool) → relexed (left s at g) ≡ left s at true
-unfolding left
-relexed-left s at g = relexed-placed at (tokens g (drop at s)) ∙ ap (λ l. placed at (tokens true l)) (joined-tokens g (drop at s))
+pub relexed-from : (s : List ℕ) (at : ℕ) (g : Bool) → relexed (leaves-from s at g) ≡ leaves-from s at true
+unfolding leaves-from
+relexed-from s at g = relexed-placed at (tokens g (drop at s)) ∙ ap (λ l. placed at (tokens true l)) (joined-tokens g (drop at s))
 
 -- Reading a source is reading what is left from its start on.
-pub parse-left : (src : List ℕ) → parse src ≡ wrap Kind.ROOT (file (length src) relexed (length src)) (left src 0 false)
-unfolding parse left
-parse-left src = refl
+pub parse-from : (src : List ℕ) → parse src ≡ wrap Kind.ROOT (file (length src) relexed (length src)) (leaves-from src 0 false)
+unfolding parse leaves-from
+parse-from src = refl

@@ -7,13 +7,13 @@ use native.Mathlib.Omega.{arith}
 use Rattle.definition.specs.Tree.{Leaf, Forest, node, _▹_, leaves, row, body-kind, concat-ops, body-concats}
 use Rattle.definition.specs.Parser.{trivia, inline, while, after, peek, Reader, _then_, wrap, skip, skip-trivia}
 use Rattle.definition.specs.Syntax.{pp-tokens, all-trivia, trimmed, trailing, body, pp-body}
-use Rattle.theorems.specs.Rows.{row-reader, row-reader-within, row-line-by, row-line-within, Alike}
+use Rattle.theorems.specs.BodyRows.{row-reader, row-reader-within, row-line-by, row-line-within, Alike}
 use Rattle.theorems.proofs.Tiling.Leaves.{leaves-▹, leaves-pp-tokens, trimmed-trailing, while-yes, after-yes, after-stop}
 use Rattle.theorems.proofs.Grammar.Clean.{trivia-inline}
-use Rattle.theorems.proofs.Rows.Ahead.{trivia-plain}
-use Rattle.theorems.proofs.Rows.Whole.{row-whole, trailing-trivia}
-use Rattle.theorems.proofs.Rows.Bodies.{trivial-first, body-line}
-use Rattle.theorems.proofs.Rows.Within.{row-within-same, row-within-alike}
+use Rattle.theorems.proofs.BodyRows.Ahead.{trivia-plain}
+use Rattle.theorems.proofs.BodyRows.Whole.{row-whole, trailing-trivia}
+use Rattle.theorems.proofs.BodyRows.Bodies.{trivial-first, body-line}
+use Rattle.theorems.proofs.BodyRows.Within.{row-within-same, row-within-alike}
 
 -- Rows without nodes hold no body; trivia holds no ##.
 row-concats : (ts : List Leaf) → body-concats (row ts) ≡ []

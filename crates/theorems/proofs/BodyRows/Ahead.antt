@@ -6,9 +6,9 @@ use borrow.Author.Tests.{eq-eqb, ne-eqb, eqb-true}
 use native.Mathlib.Omega.{arith}
 use Rattle.definition.specs.SyntaxKind.{Kind}
 use Rattle.definition.specs.Tree.{Leaf}
-use Rattle.definition.specs.Parser.{is, trivia, newline, inline}
+use Rattle.definition.specs.Parser.{is, trivia, newline-leaf, inline}
 use Rattle.definition.specs.Syntax.{pasted}
-use Rattle.theorems.specs.Rows.{ahead, ends, op-ahead, ended, Known}
+use Rattle.theorems.specs.BodyRows.{ahead, ends, op-ahead, ended, Known}
 use Rattle.theorems.proofs.Grammar.Clean.{of-kind, trivia-inline}
 
 -- One equation a case.
@@ -31,7 +31,7 @@ module _ (t : Leaf) (ts : List Leaf) where
   unfolding ended
   ended-trivia e = rw (e, ended)
 
-  pub ended-token : trivia t ≡ false → ended (t ∷ ts) ≡ newline t
+  pub ended-token : trivia t ≡ false → ended (t ∷ ts) ≡ newline-leaf t
   unfolding ended
   ended-token e = rw (e, ended)
 

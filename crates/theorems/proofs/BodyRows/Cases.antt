@@ -6,9 +6,9 @@ use mathlib.Core.List.{List, [], _∷_}
 use Rattle.definition.specs.SyntaxKind.{Kind}
 use Rattle.definition.specs.Tree.{Leaf, row, _▹_}
 use Rattle.definition.specs.Parser.{is, trivia, peek, push, Reader, _then_, wrap, skip, skip-trivia, nothing, bump}
-use Rattle.theorems.specs.Rows.{op-ahead, ended, under, allow, concat-rest, concat-rest-within, concat-by, pasting-by, tokens-rest-by, tokens-next-by, row-reader-by, concat, concat-within, concat-next, concat-next-within}
+use Rattle.theorems.specs.BodyRows.{op-ahead, ended, under, allow, concat-rest, concat-rest-within, concat-by, pasting-by, tokens-rest-by, tokens-next-by, row-reader-by, concat, concat-within, concat-next, concat-next-within}
 use Rattle.theorems.proofs.Tiling.Leaves.{while-yes, while-stop, after-yes, after-stop}
-use Rattle.theorems.proofs.Rows.Ahead.{ended-trivia, trivia-plain}
+use Rattle.theorems.proofs.BodyRows.Ahead.{ended-trivia, trivia-plain}
 
 -- Trivia, and then another reader.
 module _ (p : Reader) where
