@@ -158,13 +158,10 @@ puts-laid row [] done p q k = rw (append-nil done) k
 puts-laid row (x ∷ xs) done p q k =
     rw (← append-assoc done (row x) (flatMap row xs)) (puts-laid row xs (done ++ row x) p (put (row x) q) (laid-more done (row x) p q k))
 
--- A place that is not the far one is in the table or at its end.
-stands-within : (t : List ℕ) (n : ℕ) → Stands t n → (n ≡ far → ⊥) → n ≤ length t
-stands-within t n (within h) d = h
-stands-within t n (past e) d = absurd (d e)
-
-pub laid-within : (numbers : List ℕ) (p : Page) (t : List ℕ) (n : ℕ) → Laid numbers p (page t n) → (n ≡ far → ⊥) → n ≤ length t
-laid-within numbers p t n k d = stands-within t n (k .stands) d
+-- A place past the end is the far one.
+pub past-far : (t : List ℕ) (n : ℕ) → Stands t n → length t < n → n ≡ far
+past-far t n (within h) k = absurd (omega arith)
+past-far t n (past e) k = e
 
 -- From the front of a table: the place tells whether they fit.
 module _ (numbers t : List ℕ) (q : Page) (k : Laid numbers (page t 0) q) where

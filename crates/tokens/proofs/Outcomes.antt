@@ -18,7 +18,7 @@ use Rattle.text.specs.Fills.{Fills}
 use Rattle.text.specs.Row.{far, Page, page, Laid}
 use Rattle.text.proofs.Tables.{zeros, written-padded}
 use Rattle.text.proofs.Parts.{written-cleared}
-use Rattle.text.proofs.Rows.{front-whole, short-when-far, fits-unless-far, laid-within}
+use Rattle.text.proofs.Rows.{front-whole, short-when-far, fits-unless-far, past-far}
 use Rattle.text.proofs.Refusals.{source-then, source-length}
 use Rattle.text.proofs.Outcomes.{call, call-short, call-whole}
 
@@ -33,15 +33,15 @@ module _ (src : List ℕ) (room r n : ℕ) (t₀ t₁ : List ℕ) (e : r ≡ ref
   long : length t₁ ≡ room
   long = k .long-kept ∙ b
 
-  pub tokens-short : (t₂ : List ℕ) → n ≡ far → t₂ ≡ zeros (length t₁)
+  pub tokens-short : (t₂ : List ℕ) → length t₁ < n → t₂ ≡ zeros (length t₁)
       → Fills (call src Refusal.ENTRIES (length (tokens false src)) numbers room) (record { refusal = Refusal.ENTRIES; count = 0 }) t₂
   tokens-short t₂ h q =
-      let m : length t₀ < length numbers = short-when-far numbers t₀ (page t₁ n) k (λ x. omega (arith, few)) h in
+      let m : length t₀ < length numbers = short-when-far numbers t₀ (page t₁ n) k (λ x. omega (arith, few)) (past-far t₁ n (k .stands) h) in
       call-short src Refusal.ENTRIES _ numbers room t₂ r e z refl (omega arith) (q ∙ ap zeros long)
 
-  module _ (h : n ≡ far → ⊥) (s : length t₀ ≤ far) where
+  module _ (h : n ≤ length t₁) (s : length t₁ < far) where
     fit : length numbers ≤ length t₀
-    fit = fits-unless-far numbers t₀ (page t₁ n) k s h
+    fit = fits-unless-far numbers t₀ (page t₁ n) k (omega (arith, k .long-kept)) (λ e. omega arith)
 
     all : page t₁ n ≡ page (sets t₀ 0 numbers) (length numbers)
     all = front-whole numbers t₀ (page t₁ n) k fit
@@ -58,7 +58,7 @@ module _ (src : List ℕ) (room r n : ℕ) (t₀ t₁ : List ℕ) (e : r ≡ ref
     tokens-whole ys q =
         let m : length numbers ≤ room = omega (arith, fit) in
         call-whole src Refusal.ENTRIES _ numbers room _ r e z (n / Width.token) m (omega (arith, count, length-tokens 0 (tokens false src)))
-        (written-cleared numbers t₀ t₁ ys n (ap (λ (p : Page). p .table) all) count (laid-within numbers (page t₀ 0) t₁ n k h) q
+        (written-cleared numbers t₀ t₁ ys n (ap (λ (p : Page). p .table) all) count h q
         ∙ ap (padded numbers) long
         ∙ sym (written-padded numbers room m))
 

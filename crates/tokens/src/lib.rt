@@ -5,7 +5,6 @@ use pre::PreLexer;
 use pre::class;
 use text::Counted;
 use text::refusal::Refusal;
-use text::row::FAR;
 use text::row::put_row;
 use text::source;
 use text::table;
@@ -28,7 +27,7 @@ fn wide(kind: u8) -> u32
     kind as u32
 }
 
-// Writes the numbers of the tokens into a table, and gives the place behind them; FAR if they don't fit.
+// Writes the numbers of the tokens into a table, and gives the place behind them, or a far one if they don't fit.
 fn fill(src: &[u8], t: &mut [u32]) -> usize
     requires { ⌜ length (now src) ≤ longest-source ⌝ }
     ensures { λ r. ⌜ Laid (token-numbers 0 (tokens false (now (src .entry)))) (page (now (t .entry)) 0) (page (now (t .exit)) r) ⌝ }
@@ -70,7 +69,7 @@ pub fn list(src: &[u8], tokens: &mut [u32]) -> Counted
         };
     }
     let n = fill(src, tokens);
-    if n == FAR {
+    if tokens.len() < n {
         table::clear(tokens);
         return Counted {
             refusal: Refusal::ENTRIES,

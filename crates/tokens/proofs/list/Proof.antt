@@ -5,7 +5,6 @@ use Rattle.definition.specs.Calls.{listing-tokens}
 use Rattle.text.proofs.Cases.{cases}
 use Rattle.text.proofs.Outcomes.{call-refused}
 use Rattle.text.proofs.Refusals.{source-length}
-use Rattle.text.proofs.Rows.{laid-within}
 use Rattle.tokens.proofs.Outcomes.{tokens-short, tokens-whole, count-fits}
 use Rattle.tokens.proofs.list.Statement.{statement}
 use Rattle.tokens.proofs.list.Tie as tie
@@ -22,10 +21,10 @@ list-spec =
     (λ c κs. search (source-length, cases))
     (λ c κs. search cases)
     (λ c. search cases)
-    (λ c. search (tokens-short, cases))
-    (λ c. omega (arith, laid-within _ _ _ _ (c .before .before .before .fill .ensures) (c .if2 .left)))
-    (λ c. omega (arith, laid-within _ _ _ _ (c .before .before .before .fill .ensures) (c .if2 .left)))
-    (λ c. search (laid-within, cases))
+    (λ c. tokens-short _ _ _ _ _ _ (c .before .before .before .before .before .before .before .before .before .before .refused .ensures) (c .before .before .before .before .before .before .before .before .before .if1 .left) refl (c .before .before .before .before .before .before .before .fill .ensures) _ (c .before .before .before .before .if2 .taken) (c .before .before .clear2 .ensures))
+    (λ c. search cases)
+    (λ c. search cases)
+    (λ c. search cases)
     (λ c. search cases)
     (λ c κs. search cases)
     (λ c. count-fits _ _ _ _ _ _ (c .before .before .before .before .before .before .before .before .before .before .refused .ensures) (c .before .before .before .before .before .before .before .before .before .if1 .left) refl (c .before .before .before .before .before .before .before .fill .ensures) (c .before .before .before .before .if2 .left) (omega arith))
