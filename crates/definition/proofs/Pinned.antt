@@ -12,7 +12,7 @@ use Rattle.definition.specs.Glue.{Glue, gl, glued, pasted-kind}
 use Rattle.definition.specs.Tree.{Leaf}
 use Rattle.definition.specs.Parser.{is, peek}
 use Rattle.definition.specs.Grammar.{one, Many, no-more, one-more, _⨟_, _⨾_, empty, without, with-it, Eol, at-newline, at-end, t*, word-leaf, Closes, closed, inner, opened, passed, Params, ended, space, name, comma, Args, object, function, Rest, any, ident, none-at-all, version, extension, define, rest-of, words, rest-after, no-word, a-word, Sort, blank, text, group, directive, Item, Keeps}
-use Rattle.definition.specs.Calls.{refusal, too-long, too-many, full-reading, outcome, Reading, reading, Filled, reading-body, listing-tokens, building-lines, unescaping, Pasted, pasting}
+use Rattle.definition.specs.Calls.{refusal, too-many, full-reading, outcome, Reading, reading, Filled, reading-body, listing-tokens, building-lines, unescaping, Pasted, pasting}
 
 -- The numbers from n on, so many.
 unfoldable from : ℕ → ℕ → List ℕ
@@ -46,10 +46,7 @@ sames : same (ascii "ab") (ascii "ab") ∷ same (ascii "ab") (ascii "ac") ∷ sa
 unfolding same ascii
 sames = refl
 
--- A source of 16,777,216 bytes is not too long, and with one byte more it is; then no later condition counts.
-longest : (src : List ℕ) → length src ≡ 16_777_216 → too-long src .fails ≡ false
-longest src e = rw e
-
+-- Above 16,777,216 bytes refusal 1 is given, whatever else holds.
 module _ (src : List ℕ) (e : length src ≡ 16_777_217) where
   too-long-read : (a b c : ℕ) → reading src a b c .refused ≡ 1
   unfolding reading outcome refusal
@@ -70,6 +67,37 @@ module _ (src : List ℕ) (e : length src ≡ 16_777_217) where
   too-long-text : (room : ℕ) → unescaping src room .refused ≡ 1
   unfolding unescaping refusal
   too-long-text room = rw e
+
+-- Up to it, where the source is not UTF-8, refusal 2.
+module _ (src : List ℕ) (e : length src ≡ 16_777_216) (u : utf8 src ≡ false) where
+  not-utf8-read : (a b c : ℕ) → reading src a b c .refused ≡ 2
+  unfolding reading outcome refusal
+  not-utf8-read a b c = rw (e, u)
+
+  not-utf8-body : (room : ℕ) → reading-body src room .refused ≡ 2
+  unfolding reading-body refusal
+  not-utf8-body room = rw (e, u)
+
+  not-utf8-tokens : (room : ℕ) → listing-tokens src room .refused ≡ 2
+  unfolding listing-tokens refusal
+  not-utf8-tokens room = rw (e, u)
+
+  not-utf8-lines : (room : ℕ) → building-lines src room .refused ≡ 2
+  unfolding building-lines refusal
+  not-utf8-lines room = rw (e, u)
+
+  not-utf8-text : (room : ℕ) → unescaping src room .refused ≡ 2
+  unfolding unescaping refusal
+  not-utf8-text room = rw (e, u)
+
+-- A body of 256 ## is read, one of 257 refused.
+most : too-many (3 ∷ 256 ∷ []) ≡ false
+unfolding too-many
+most = refl
+
+one-over : too-many (3 ∷ 257 ∷ []) ≡ true
+unfolding too-many
+one-over = refl
 
 -- UTF-8: the first and the last character of each form of RFC 3629.
 abbrev borders : List (List ℕ)
@@ -117,18 +145,18 @@ unfolding left follow forms
 no-characters = refl
 
 -- Pasting: of all pairs of tokens those that don't give ERROR, as the Rust has them.
-unfoldable pasted-row : ℕ → ℕ → List Glue
-pasted-row a b = let p = pasting a b in if eqb (p .refused) 0 && not (eqb (p .kind) K.ERROR) then gl a b (p .kind) ∷ [] else []
+unfoldable pasted-row : ℕ → ℕ → ℕ → List Glue
+pasted-row a b k = if eqb k K.ERROR then [] else gl a b k ∷ []
 
 unfoldable with-each : ℕ → List ℕ → List Glue
 with-each a [] = []
-with-each a (b ∷ bs) = pasted-row a b ++ with-each a bs
+with-each a (b ∷ bs) = pasted-row a b (pasting a b .kind) ++ with-each a bs
 
 unfoldable all-pairs : List ℕ → List ℕ → List Glue
 all-pairs [] bs = []
 all-pairs (a ∷ as′) bs = with-each a bs ++ all-pairs as′ bs
 
-pairs-pasted : all-pairs (from 1 58) (from 1 58) ≡
+pairs-pasted : all-pairs (from 1 34 ++ from 36 23) (from 1 34 ++ from 36 23) ≡
     gl K.IDENT_KW K.IDENT_KW K.IDENT_KW ∷ gl K.IDENT_KW K.DEFINED K.IDENT_KW ∷ gl K.IDENT_KW K.DIGITS K.IDENT_KW ∷
     gl K.DIGITS K.IDENT_KW K.DIGITS ∷ gl K.DIGITS K.DIGITS K.DIGITS ∷ gl K.DIGITS K.PERIOD K.DIGITS ∷ gl K.DIGITS K.PLUS K.DIGITS ∷
     gl K.DIGITS K.DASH K.DIGITS ∷ gl K.PERIOD K.DIGITS K.DIGITS ∷ gl K.PLUS K.PLUS K.INC_OP ∷ gl K.PLUS K.EQUAL K.ADD_ASSIGN ∷
