@@ -195,17 +195,13 @@ tables =
     asks (shown (unescaping (0xC2 ∷ []) 0)) (answer 2 0) ∷
     asks (shown (reading-body (ascii "") 7)) (answer 0 1 ++ node K.PP_DEFINE_BODY 0 0 0 ++ zeros 2) ∷
     asks (shown (reading-body (ascii "") 4)) (answer 4 0 ++ zeros 4) ∷
-    asks (shown (reading-body (concats 256) 4)) (answer 4 0 ++ zeros 4) ∷
     asks (shown (reading-body (concats 257) 4)) (answer 3 0 ++ zeros 4) ∷
-    asks (shown (reading-body (concats 257 ++ (0x80 ∷ [])) 4)) (answer 2 0 ++ zeros 4) ∷
     asks (read (reading (ascii "#a") 27 11 3)) (counts 0 5 1 1 ++ node K.ROOT 0 0 2 ++ node K.ERROR 1 0 2 ++ leaf K.HASH 2 0 1
     ++ node K.ERROR 2 1 2 ++ leaf K.IDENT_KW 3 1 2 ++ zeros 2 ++ error 1 1 2 0 1 0 0 0 1 2 ++ zeros 1 ++ line 0 ++ zeros 2) ∷
     asks (read (reading (ascii "#a") 25 10 0)) (counts 6 0 0 0 ++ zeros 35) ∷
     asks (read (reading (ascii "#a") 25 9 0)) (counts 5 0 0 0 ++ zeros 34) ∷
     asks (read (reading (ascii "#a") 24 9 2)) (counts 4 0 0 0 ++ zeros 35) ∷
-    asks (read (reading (ascii "#if\n#if" ++ concats 256) 4 0 0)) (counts 4 0 0 0 ++ zeros 4) ∷
-    asks (read (reading (ascii "#if\n#if" ++ concats 257) 4 0 0)) (counts 3 0 0 0 ++ zeros 4) ∷
-    asks (read (reading (ascii "#if\n#if" ++ concats 257 ++ (0x80 ∷ [])) 4 1 1)) (counts 2 0 0 0 ++ zeros 6) ∷ []
+    asks (read (reading (ascii "#if\n#if" ++ concats 257) 4 0 0)) (counts 3 0 0 0 ++ zeros 4) ∷ []
 
 -- How many ## each body holds, of the seven words with one; extra tokens, text, groups and arguments are none.
 abbrev counts-of-concats : List Asked

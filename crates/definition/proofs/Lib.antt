@@ -1,4 +1,5 @@
 pub mod Worked
-pub mod Pinned
 pub mod Recorded
 pub mod Asked
+pub mod Pinned
+pub mod Kept

@@ -1,18 +1,11 @@
--- Facts that pin the definition where no short input of a call does: the kinds, limits, UTF-8, pasting, and the grammar.
-use Prim.Native.String.{String}
-use mathlib.Core.Path.{_≡_, refl, sym}
-use mathlib.Core.Bool.{false≢true}
-use Rattle.definition.specs.Text.{ℕ, zero, suc, Bool, true, false, not, _&&_, _||_, List, [], _∷_, _++_, map, some, eqb, length, replicate, if_then_else_, ascii, same}
+-- Facts that pin the definition where no short input of a call does: the kinds, limits, UTF-8 and pasting.
+use mathlib.Core.Path.{_≡_, refl}
+use Rattle.definition.specs.Text.{ℕ, zero, suc, true, false, List, [], _∷_, _++_, map, eqb, length, replicate, if_then_else_, ascii, same}
 use Rattle.definition.specs.SyntaxKind.{Kind as K}
 use Rattle.definition.specs.Utf8.{char-forms, follow, left, cut, broken, utf8}
-use Rattle.definition.specs.Runs.{runs, grouped}
-use Rattle.definition.specs.Newline.{char-more, chars, LETTER, DIGIT, NEWLINE, WS, PUNCT, class}
-use Rattle.definition.specs.Unescaped.{unescaped-chars, unescaped}
+use Rattle.definition.specs.Newline.{LETTER, DIGIT, NEWLINE, WS, PUNCT, class}
 use Rattle.definition.specs.Glue.{Glue, gl, glued, pasted-kind}
-use Rattle.definition.specs.Tree.{Leaf}
-use Rattle.definition.specs.Parser.{is, peek}
-use Rattle.definition.specs.Grammar.{one, Many, no-more, one-more, _⨟_, _⨾_, empty, without, with-it, Eol, at-newline, at-end, t*, word-leaf, Closes, closed, inner, opened, passed, Params, ended, space, name, comma, Args, object, function, Rest, any, ident, none-at-all, version, extension, define, rest-of, words, rest-after, no-word, a-word, Sort, blank, text, group, directive, Item, Keeps}
-use Rattle.definition.specs.Calls.{refusal, too-long, too-many, full-reading, outcome, Reading, reading, Filled, reading-body, listing-tokens, building-lines, unescaping, Pasted, pasting}
+use Rattle.definition.specs.Calls.{refusal, too-many, outcome, Reading, reading, Filled, reading-body, listing-tokens, building-lines, unescaping, Pasted, pasting}
 
 -- The numbers from n on, so many.
 unfoldable from : ℕ → ℕ → List ℕ
@@ -36,7 +29,8 @@ kinds-in-order = refl
 -- The classes of first bytes: 10 and 13 are newlines, 9, 12 and 32 blanks.
 classes : map class (from 0 256) ≡
     replicate 9 PUNCT ++ replicate 1 WS ++ replicate 1 NEWLINE ++ replicate 1 PUNCT ++ replicate 1 WS ++ replicate 1 NEWLINE ++ replicate 18 PUNCT
-    ++ replicate 1 WS ++ replicate 15 PUNCT ++ replicate 10 DIGIT ++ replicate 7 PUNCT ++ replicate 26 LETTER ++ replicate 6 PUNCT ++ replicate 26 LETTER ++ replicate 133 PUNCT
+    ++ replicate 1 WS ++ replicate 15 PUNCT ++ replicate 10 DIGIT ++ replicate 7 PUNCT ++ replicate 26 LETTER ++ replicate 6 PUNCT
+    ++ replicate 26 LETTER ++ replicate 133 PUNCT
 unfolding class from
 classes = refl
 
@@ -46,30 +40,28 @@ sames : same (ascii "ab") (ascii "ab") ∷ same (ascii "ab") (ascii "ac") ∷ sa
 unfolding same ascii
 sames = refl
 
--- A source of 16,777,216 bytes is not too long, and with one byte more it is; then no later condition counts.
-longest : (src : List ℕ) → length src ≡ 16_777_216 → too-long src .fails ≡ false
-longest src e = rw e
+-- Each call on a source refuses 1 above 16,777,216 bytes, whatever else holds, and 2 up to it where the source is not UTF-8.
+abbrev refusals : List ℕ → ℕ → ℕ → ℕ → List ℕ
+refusals src a b c =
+    reading src a b c .refused ∷ reading-body src a .refused ∷ listing-tokens src a .refused ∷ building-lines src a .refused
+    ∷ unescaping src a .refused ∷ []
 
-module _ (src : List ℕ) (e : length src ≡ 16_777_217) where
-  too-long-read : (a b c : ℕ) → reading src a b c .refused ≡ 1
-  unfolding reading outcome refusal
-  too-long-read a b c = rw e
+too-long : (src : List ℕ) (a b c : ℕ) → length src ≡ 16_777_217 → refusals src a b c ≡ 1 ∷ 1 ∷ 1 ∷ 1 ∷ 1 ∷ []
+unfolding reading outcome reading-body listing-tokens building-lines unescaping refusal
+too-long src a b c e = rw e
 
-  too-long-body : (room : ℕ) → reading-body src room .refused ≡ 1
-  unfolding reading-body refusal
-  too-long-body room = rw e
+not-utf8 : (src : List ℕ) (a b c : ℕ) → length src ≡ 16_777_216 → utf8 src ≡ false → refusals src a b c ≡ 2 ∷ 2 ∷ 2 ∷ 2 ∷ 2 ∷ []
+unfolding reading outcome reading-body listing-tokens building-lines unescaping refusal
+not-utf8 src a b c e u = rw (e, u)
 
-  too-long-tokens : (room : ℕ) → listing-tokens src room .refused ≡ 1
-  unfolding listing-tokens refusal
-  too-long-tokens room = rw e
+-- A body of 256 ## is read, one of 257 refused.
+most : too-many (3 ∷ 256 ∷ []) ≡ false
+unfolding too-many
+most = refl
 
-  too-long-lines : (room : ℕ) → building-lines src room .refused ≡ 1
-  unfolding building-lines refusal
-  too-long-lines room = rw e
-
-  too-long-text : (room : ℕ) → unescaping src room .refused ≡ 1
-  unfolding unescaping refusal
-  too-long-text room = rw e
+one-over : too-many (3 ∷ 257 ∷ []) ≡ true
+unfolding too-many
+one-over = refl
 
 -- UTF-8: the first and the last character of each form of RFC 3629.
 abbrev borders : List (List ℕ)
@@ -117,18 +109,18 @@ unfolding left follow char-forms
 no-characters = refl
 
 -- Pasting: of all pairs of tokens those that don't give ERROR, as the Rust has them.
-unfoldable pasted-row : ℕ → ℕ → List Glue
-pasted-row a b = let p = pasting a b in if eqb (p .refused) 0 && not (eqb (p .kind) K.ERROR) then gl a b (p .kind) ∷ [] else []
+unfoldable pasted-row : ℕ → ℕ → ℕ → List Glue
+pasted-row a b k = if eqb k K.ERROR then [] else gl a b k ∷ []
 
 unfoldable with-each : ℕ → List ℕ → List Glue
 with-each a [] = []
-with-each a (b ∷ bs) = pasted-row a b ++ with-each a bs
+with-each a (b ∷ bs) = pasted-row a b (pasting a b .kind) ++ with-each a bs
 
 unfoldable all-pairs : List ℕ → List ℕ → List Glue
 all-pairs [] bs = []
 all-pairs (a ∷ as′) bs = with-each a bs ++ all-pairs as′ bs
 
-pairs-pasted : all-pairs (from 1 58) (from 1 58) ≡
+pairs-pasted : all-pairs (from 1 34 ++ from 36 23) (from 1 34 ++ from 36 23) ≡
     gl K.IDENT_KW K.IDENT_KW K.IDENT_KW ∷ gl K.IDENT_KW K.DEFINED K.IDENT_KW ∷ gl K.IDENT_KW K.DIGITS K.IDENT_KW ∷
     gl K.DIGITS K.IDENT_KW K.DIGITS ∷ gl K.DIGITS K.DIGITS K.DIGITS ∷ gl K.DIGITS K.PERIOD K.DIGITS ∷ gl K.DIGITS K.PLUS K.DIGITS ∷
     gl K.DIGITS K.DASH K.DIGITS ∷ gl K.PERIOD K.DIGITS K.DIGITS ∷ gl K.PLUS K.PLUS K.INC_OP ∷ gl K.PLUS K.EQUAL K.ADD_ASSIGN ∷
@@ -140,96 +132,3 @@ pairs-pasted : all-pairs (from 1 58) (from 1 58) ≡
     gl K.RIGHT_OP K.EQUAL K.RIGHT_ASSIGN ∷ []
 unfolding all-pairs with-each pasted-row from pasting refusal pasted-kind glued
 pairs-pasted = refl
-
--- The grammar. Leaves by their kind, and words.
-abbrev bare : ℕ → Leaf
-bare k = record { kind = k; start = 0; bytes = [] }
-
-abbrev word : String → Leaf
-word s = record { kind = K.IDENT_KW; start = 0; bytes = ascii s }
-
-abbrev T : Leaf  -- Trivia.
-T = bare K.WS
-
-abbrev N : Leaf
-N = bare K.NEWLINE
-
-abbrev H : Leaf
-H = bare K.HASH
-
-abbrev I : Leaf
-I = bare K.IDENT_KW
-
--- One leaf of many; and an item in front of what keeps the grammar.
-just : {p : Leaf → Bool} {t : Leaf} {R : List Leaf} → p t ≡ true → Many p (t ∷ R) R
-just e = one-more e no-more
-
-item-first : (s : Sort) {L R : List Leaf} → Item s L R → Keeps R → Keeps L
-item-first s {R} i k = (record { sort = s; behind = R } ∷ k .0, (i, k .1))
-
--- A HASH with its word, which is followed by the rest of a kind.
-worded : (r : Rest) {t h : Leaf} {L R S : List Leaf} → is K.HASH h ≡ true → word-leaf t ≡ true → rest-after words (unescaped (t .bytes)) ≡ some r
-    → rest-of r L R → (t* ⨟ Eol) R S → Keeps S → Keeps (h ∷ t ∷ L)
-worded r h w e x (s ⨾ n) k = item-first directive (no-more ⨾ one h ⨾ no-more ⨾ a-word w e x ⨾ s ⨾ n) k
-
--- A row that keeps it: blank, text, group, the six rests, no word, and the end in place of NEWLINE.
-kept : Keeps (
-    T ∷ N ∷
-    T ∷ I ∷ H ∷ N ∷
-    T ∷ H ∷ T ∷ bare K.LPAREN ∷ bare K.LPAREN ∷ N ∷ bare K.RPAREN ∷ bare K.RPAREN ∷
-    H ∷ word "line" ∷ T ∷ I ∷ T ∷ N ∷
-    H ∷ word "undef" ∷ T ∷ I ∷ T ∷ N ∷
-    H ∷ word "else" ∷ T ∷ N ∷
-    H ∷ word "version" ∷ T ∷ bare K.DIGITS ∷ N ∷
-    H ∷ word "version" ∷ bare K.DIGITS ∷ T ∷ I ∷ N ∷
-    H ∷ word "extension" ∷ T ∷ I ∷ T ∷ bare K.COLON ∷ T ∷ I ∷ N ∷
-    H ∷ word "define" ∷ T ∷ I ∷ T ∷ bare K.LPAREN ∷ N ∷
-    H ∷ word "define" ∷ I ∷ bare K.LPAREN ∷ T ∷ I ∷ bare K.COMMA ∷ I ∷ bare K.COMMA ∷ bare K.RPAREN ∷ I ∷ N ∷
-    T ∷ H ∷ T ∷ N ∷
-    H ∷ word "endif" ∷ [])
-unfolding words rest-after same ascii unescaped unescaped-chars chars char-more grouped runs peek
-kept =
-    item-first blank (just refl ⨾ one refl)
-    (item-first text (just refl ⨾ one refl ⨾ just refl ⨾ at-newline refl)
-    (item-first group (just refl ⨾ one refl ⨾ just refl ⨾ one refl ⨾ opened refl (passed refl (inner refl (closed refl))))
-    (worded any refl refl refl (one-more refl (just refl)) (just refl ⨾ at-newline refl)
-    (worded ident refl refl refl (just refl ⨾ one refl) (just refl ⨾ at-newline refl)
-    (worded none-at-all refl refl refl empty (just refl ⨾ at-newline refl)
-    (worded version refl refl refl (just refl ⨾ one refl ⨾ without) (no-more ⨾ at-newline refl)
-    (worded version refl refl refl (no-more ⨾ one refl ⨾ with-it (just refl ⨾ one refl)) (no-more ⨾ at-newline refl)
-    (worded extension refl refl refl (just refl ⨾ one refl ⨾ just refl ⨾ one refl ⨾ just refl ⨾ one refl) (no-more ⨾ at-newline refl)
-    (worded define refl refl refl (just refl ⨾ one refl ⨾ object refl ⨾ one-more refl (just refl)) (no-more ⨾ at-newline refl)
-    (worded define refl refl refl (no-more ⨾ one refl ⨾ function refl (space refl (name refl (comma refl (name refl (comma refl (ended refl)))))) ⨾ just refl) (no-more ⨾ at-newline refl)
-    (item-first directive (just refl ⨾ one refl ⨾ just refl ⨾ no-word ⨾ no-more ⨾ at-newline refl)
-    (worded none-at-all refl refl refl empty (no-more ⨾ at-end) ([], no-more)))))))))))))
-
--- What breaks it: a text line that begins with HASH,
-no-text : {R : List Leaf} → Item text (H ∷ N ∷ []) R → ⊥
-no-text (no-more ⨾ (one e ⨾ x)) = false≢true e
-no-text (one-more e t ⨾ x) = false≢true e
-
--- a group with one RPAREN for two LPAREN,
-no-group : {R : List Leaf} → Closes zero (bare K.LPAREN ∷ bare K.RPAREN ∷ []) R → ⊥
-no-group (closed e) = false≢true e
-no-group (opened e (opened f x)) = false≢true f
-no-group (opened e (passed f x)) = false≢true (sym f)
-no-group (passed e x) = false≢true (sym e)
-
--- a NEWLINE in the rest of `line`,
-no-line : rest-of any (N ∷ []) [] → ⊥
-no-line (one-more e x) = false≢true e
-
--- anything in the rest of `else`,
-no-rest : {L R : List Leaf} → rest-of none-at-all L R → L ≡ R
-no-rest empty = refl
-
--- a macro without arguments where LPAREN follows,
-no-object : Args (bare K.LPAREN ∷ []) (bare K.LPAREN ∷ []) → ⊥
-unfolding peek
-no-object (object e) = false≢true (sym e)
-
--- a comma where an identifier may come.
-no-comma-first : {R : List Leaf} → Params true (bare K.COMMA ∷ bare K.RPAREN ∷ []) R → ⊥
-no-comma-first (ended e) = false≢true e
-no-comma-first (space e p) = false≢true e
-no-comma-first (name e p) = false≢true e
