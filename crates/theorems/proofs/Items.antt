@@ -2,7 +2,7 @@
 use Prim.Native.Nat.{ℕ, zero, suc, _+_, _≤_, _<_}
 use mathlib.Core.Path.{_≡_, refl, ap, sym, _∙_}
 use mathlib.Core.Bool.{Bool, true, false, false≢true}
-use mathlib.Core.List.{List, [], _∷_, _++_, append-nil}
+use mathlib.Core.List.{List, [], _∷_, _++_, append-nil, append-assoc}
 use native.Mathlib.Nat.{add-zero, add-assoc}
 use native.Mathlib.Omega.{arith}
 use lib.ListN.{length, length-append}
@@ -13,10 +13,12 @@ use Rattle.definition.specs.Syntax.{Line, control-line, hash-item, item, file, 
 use Rattle.theorems.specs.Placed.{Placed}
 use Rattle.theorems.specs.LeavesFrom.{leaves-from}
 use Rattle.theorems.specs.Items.{items}
+use Rattle.theorems.specs.TextLines.{Text, push-row, Lines}
 use Rattle.theorems.proofs.LeavesFrom.{leaves-bytes, parse-from}
 use Rattle.theorems.proofs.Tiling.Leaves.{leaves-▹, bytes-append, after-yes, after-stop, while-after}
 use Rattle.theorems.proofs.Tiling.Steady.{Steady-at, steady-then, steady-trivia, steady-skip, steady-bump}
 use Rattle.theorems.proofs.Tiling.Tiles.{Recut, Tiles}
+use Rattle.theorems.proofs.TextLines.{file-none, lines-file, lines-behind}
 use Rattle.theorems.proofs.Replay.Laws.{leaves-shut}
 use Rattle.theorems.proofs.Replay.Items.{front, leaves-front, hash-step, item-retold, file-nil, file-more}
 
@@ -42,12 +44,6 @@ text-fewer t ts = go (trivia t) refl (inline t) refl
     go false e true f =
         rw (after-stop trivia (t ∷ ts) e, after-yes inline t ts f) (omega (arith, bump-short (after inline ts), after-short inline ts))
     go false e false f = rw (after-stop trivia (t ∷ ts) e, after-stop inline (t ∷ ts) f, bump) (omega arith)
-
--- Of an empty row nothing is read.
-file-none : (n : ℕ) (again : List Leaf → List Leaf) (f : ℕ) → file n again f [] ≡ nothing []
-unfolding file row nothing
-file-none n again zero = refl
-file-none n again (suc f) = refl
 
 -- Leaves that lie somewhere have bytes.
 some-bytes : (a : ℕ) (u : Leaf) (us ts : List Leaf) → Placed a (u ∷ us ++ ts) → 0 < length (bytes (u ∷ us))
@@ -137,6 +133,30 @@ module _ (n : ℕ) (again : List Leaf → List Leaf) (recuts : (ts : List Leaf) 
       let l = item-fewer a t ts p in
       file-enough m (suc m) a (t ∷ ts) p (omega arith) (omega arith) ∙ file-more n again m t ts
       ∙ ap (behind (got (t ∷ ts))) (file-enough m (length (bytes r)) _ r (item-lies a t ts p) (omega arith) (omega arith))
+
+-- Text lines, and then the other items.
+module _ (n : ℕ) (again : List Leaf → List Leaf) (recuts : (ts : List Leaf) → Recut (again ts) ts) where
+  -- Items behind leaves that were taken.
+  behind-leaves : (a : ℕ) (us ts vs : List Leaf) → ts ≡ us ++ vs → Placed a ts → file n again (length (bytes ts)) vs ≡ items n again vs
+  behind-leaves a us ts vs e p =
+      let q : Placed a (us ++ vs) = rw e at p in
+      file-enough n again recuts (length (bytes ts)) (length (bytes vs)) _ vs (lies-behind a us vs q)
+      (omega (arith, simp (bytes-append, length-append) at (ap (λ l. length (bytes l)) e))) (omega arith)
+
+  pub items-lines : (a : ℕ) (us ts vs : List Leaf) → Lines us ts vs → Text ts → Placed a ts → items n again ts ≡ push-row us (items n again vs)
+  items-lines a us ts vs l h p =
+      let f : ℕ = length (bytes ts) in
+      file-enough n again recuts f (suc (l .more) + f) a ts p (omega arith) (omega arith) ∙ lines-file us ts vs l h n again f
+      ∙ ap (push-row us) (behind-leaves a us ts vs (l .joins) p)
+
+  -- The same where the trivia at the front has been taken first.
+  pub items-behind : (a : ℕ) (us ts vs : List Leaf) → Lines us (after trivia ts) vs → Text ts → Placed a ts
+      → items n again ts ≡ push-row (while trivia ts) (push-row us (items n again vs))
+  items-behind a us ts vs l h p =
+      let f : ℕ = length (bytes ts) in
+      let e : ts ≡ (while trivia ts ++ us) ++ vs = sym (while-after trivia ts) ∙ ap (λ x. while trivia ts ++ x) (l .joins) ∙ sym (append-assoc (while trivia ts) us vs) in
+      file-enough n again recuts f (suc (l .more) + f) a ts p (omega arith) (omega arith) ∙ lines-behind us ts vs l h n again f
+      ∙ ap (λ g. push-row (while trivia ts) (push-row us g)) (behind-leaves a (while trivia ts ++ us) ts vs e p)
 
 pub items-none : (n : ℕ) (again : List Leaf → List Leaf) → items n again [] ≡ nothing []
 items-none n again = file-none n again _

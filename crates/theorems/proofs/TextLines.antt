@@ -20,7 +20,7 @@ unfolding _▹_
 
 module _ (n : ℕ) (again : List Leaf → List Leaf) where
   -- Of an empty row nothing is read.
-  file-none : (f : ℕ) → file n again f [] ≡ nothing []
+  pub file-none : (f : ℕ) → file n again f [] ≡ nothing []
   unfolding file row nothing
   file-none zero = refl
   file-none (suc f) = refl
