@@ -1,31 +1,36 @@
 #!/usr/bin/env python3
 """Records the Rust's answers to the five exported calls, for a program that replays them.
 
-usage: record.py ORACLE FILE [short]
+usage: record.py ORACLE FOLDER
 
-ORACLE is the folder of the oracle, built (`cargo build --offline --release`). FILE becomes a row of records and then a
-byte 0. A record, little endian: the call (a byte: 1 tokens, 2 line table, 3 unescape, 4 lookup, 5 paste); the length of
-the input (16 bits) and the input; how many numbers answer (16 bits), and these (32 bits each).
-  1, 2, 3: the input is a source. Answer: refusal, count, then every number (or byte) of a table just long enough.
-  4: the input is an offset and then line starts, 32 bits each. Answer: refusal, line, column.
-  5: the input is two kinds, 32 bits each. Answer: refusal, kind.
-With `short`, each accepted source of calls 1 to 3 may also come with a table that lacks its last number: refusal 4, 6
-or 8, count 0, and then the zeros of that table. In every record of these calls the table is two shorter than the answer.
+ORACLE is the folder of the oracle, built (`cargo build --offline --release`). FOLDER gets a file for each call: tokens,
+lines, unescape, lookup, paste. A file is a row of records; a number in it has 32 bits, little endian. A record: how many
+bytes its input has (a byte), a number n, the input, and the numbers that answer.
+  tokens, lines, unescape: the input is a source, and n the length of the table. Answer: refusal, count, and then every
+    number (or byte) of the table.
+  lookup: n is the offset, the input the line starts (numbers). Answer: refusal, line, column.
+  paste: n is the first kind, the input the second (a number). Answer: refusal, kind.
+Tables are just long enough, and some longer or one number short. The Rust has no tables: what it does not use of one is 0,
+and of one that is too short document 01's answer is recorded, the refusal, a count of 0, and zeros.
+A call with several tables would have their lengths in front of its source, and its tables one after another.
 Nothing is left to chance: two runs write the same bytes.
 """
 import random, struct, subprocess, sys
 from pathlib import Path
 
-if len(sys.argv) not in (3, 4) or sys.argv[3:] not in ([], ["short"]):
+if len(sys.argv) != 3:
     sys.exit(__doc__)
-ORACLE, FILE, SHORT = Path(sys.argv[1]) / "target/release", Path(sys.argv[2]), len(sys.argv) == 4
-LONGEST, MOST_BYTES = 60, 120_000
-CALLS = {"tokens": 1, "lines": 2, "unescape": 3, "lookup": 4, "paste": 5}
+ORACLE, FOLDER = Path(sys.argv[1]) / "target/release", Path(sys.argv[2])
+# Of a source, of a table, and of the buffer that a file is read into.
+LONGEST, MOST_NUMBERS, MOST_BYTES = 60, 1_024, 524_288
 TOO_SHORT = {"tokens": 4, "lines": 6, "unescape": 8}
 
 # The sources of document 01's worked readings, and of its text.
 WORKED = [b"", b"#", b"#\n", b"#undef\nfoo\n", b"#(a)\n", b"/***/", b"1.2.3", b"abc\\d", b"\n\r\n", b"<<<", b"#define F(a,) a\n",
           b"#version\ncore\n", b"#a", b"/****/", b"1e5+3", b"//\\\na", b"/\\\n/", b"\x0b", b".5", b"de\\\nfined", b"a\\\r\nb", b"\\\\\n"]
+
+# Newlines in comments and behind a backslash, and the characters before and behind the surrogates and the last one.
+BORDERS = [b"/*\n\r*/\r\n", b"\\\n\r\n", b"a\n\xe2\x82", b"\xed\x9f\xbf\xf4\x8f\xbf\xbf", b"\xee\x80\x80"]
 
 # Pieces, rows of at most so many, and how many of these sources are kept for each call.
 ALPHABETS = [(r"\\ \n \r a 1", 4, (24, 24, 30)), (r"/ * \\ \n", 5, (40, 10, 8)), (r". 1 e + \\", 4, (40, 0, 0)), (r"< > = \x22 a \n", 4, (24, 0, 0)),
@@ -70,7 +75,7 @@ def spread(row, count):
 
 def sources():
     """Sources for tokens, line table and unescaping."""
-    kept = [list(WORKED) for _ in range(3)]
+    kept = [WORKED + BORDERS for _ in range(3)]
     for pieces, most, counts in ALPHABETS:
         row = list(dict.fromkeys(generated("exhaust", pieces, 0, most)))
         for into, count in zip(kept, counts):
@@ -87,6 +92,7 @@ def sources():
 def lookups():
     """Offsets with line starts, right and wrong."""
     found = [(0, []), (5, []), (0, [0]), (2**32 - 1, [0]), (0, [1]), (3, [0, 0]), (3, [0, 2, 2]), (3, [0, 3, 2]), (9, [0, 4, 0]),
+             *((offset, [0, 2, 3]) for offset in (0, 1, 2, 3, 9, 2**32 - 1)), (7, [0]), (1, [1]), (0, [0, 0]), (0, [0, 3, 2]), (2**32 - 1, [0, 2, 2]),
              (2**32 - 1, [0, 2**32 - 1]), (2**32 - 2, [0, 2**32 - 1]), (7, [0, 7, 8]), (6, [0, 7, 8]), (8, [0, 7, 8]), (2**31, [0, 2**24])]
     for _ in range(160):
         starts = [0]
@@ -97,42 +103,61 @@ def lookups():
             starts[place] = random.choice((0, 1, starts[place - 1], starts[-1]))
         near = random.choice(starts) + random.choice((-1, 0, 1))
         found.append((max(0, random.choice((near, near, random.randrange(starts[-1] + 20)))), starts))
-    return found
+    return [(offset, starts) for offset, *starts in dict.fromkeys((offset, *starts) for offset, starts in found)]
 
 def pastes():
     """Pairs of kinds: a share of all that are not ERROR and of the others, and kinds that are refused."""
     every = [(a, b) for a in range(1, 87) for b in range(1, 87) if 35 not in (a, b)]
     kinds = [answer[1] for answer in answers("paste", [b"%d %d" % pair for pair in every])]
     glued = [pair for pair, kind in zip(every, kinds) if kind != 36]
-    refused = [(0, 1), (1, 0), (0, 0), (35, 1), (1, 35), (87, 1), (1, 87), (86, 86), (65537, 1), (1, 65536 + 28), (2**32 - 1, 1), (28, 2**32 - 1)]
-    return glued + random.sample(every, 200) + refused
+    errors = [(10, 41), (2, 1), (86, 86)]
+    refused = [(0, 1), (1, 0), (0, 0), (35, 1), (1, 35), (35, 22), (5, 35), (87, 1), (1, 87), (87, 5), (65537, 1), (1, 65536 + 28), (2**32 - 1, 1), (28, 2**32 - 1)]
+    return list(dict.fromkeys(glued + random.sample(every, 200) + errors + refused))
 
-def record(call, given, numbers):
-    return struct.pack("<BH", CALLS[call], len(given)) + given + struct.pack(f"<H{len(numbers)}I", len(numbers), *numbers)
+def numbers(*row):
+    return struct.pack(f"<{len(row)}I", *row)
+
+def rooms(source, need):
+    """Lengths of tables for a source that needs so many numbers, besides just enough."""
+    if source in WORKED + BORDERS + NOT_UTF8:
+        yield from (need - 1, need + 2)
+    elif 1 <= need <= 13 and random.random() < 0.1:
+        yield need - 1
+
+def with_room(call, answer, room):
+    """The answer with a table of that length."""
+    refusal, count, *table = answer
+    if room < len(table):
+        return [TOO_SHORT[call], 0] + [0] * room
+    return answer + [0] * (room - len(table))
+
+def records():
+    """Each call's, as n, input and answer."""
+    for call, row in zip(("tokens", "lines", "unescape"), sources()):
+        for source, answer in zip(row, answers(call, row)):
+            need = len(answer) - 2
+            for room in (need, *rooms(source, need)):
+                if 0 <= room:
+                    yield call, room, source, with_room(call, answer, room)
+    row = lookups()
+    for (offset, starts), answer in zip(row, answers("lookup", [" ".join(map(str, [offset, *starts])).encode() for offset, starts in row])):
+        yield "lookup", offset, numbers(*starts), answer
+    row = pastes()
+    for (lhs, rhs), answer in zip(row, answers("paste", [b"%d %d" % pair for pair in row])):
+        yield "paste", lhs, numbers(rhs), answer
 
 def main():
     random.seed(3)
-    records, counts, refusals = [], {}, {}
-    def add(call, given, numbers):
-        records.append(record(call, given, numbers))
-        counts[call] = counts.get(call, 0) + 1
-        refusals[numbers[0]] = refusals.get(numbers[0], 0) + 1
-    for call, row in zip(("tokens", "lines", "unescape"), sources()):
-        for source, numbers in zip(row, answers(call, row)):
-            add(call, source, numbers)
-            room = len(numbers) - 3
-            if SHORT and 0 <= room <= 12 and random.random() < 0.1:
-                add(call, source, [TOO_SHORT[call], 0] + [0] * room)
-    row = lookups()
-    for (offset, starts), numbers in zip(row, answers("lookup", [" ".join(map(str, [offset, *starts])).encode() for offset, starts in row])):
-        add("lookup", struct.pack(f"<{len(starts) + 1}I", offset, *starts), numbers)
-    row = pastes()
-    for pair, numbers in zip(row, answers("paste", [b"%d %d" % pair for pair in row])):
-        add("paste", struct.pack("<2I", *pair), numbers)
-    whole = b"".join(records) + b"\0"
-    assert len(whole) <= MOST_BYTES, len(whole)
-    FILE.write_bytes(whole)
-    print(f"{len(records)} records, {len(whole)} bytes;", ", ".join(f"{call} {n}" for call, n in counts.items()))
+    files, refusals = {}, {}
+    for call, n, given, answer in records():
+        assert len(answer) <= MOST_NUMBERS
+        files.setdefault(call, []).append(struct.pack("<BI", len(given), n) + given + numbers(*answer))
+        refusals[answer[0]] = refusals.get(answer[0], 0) + 1
+    for call, row in files.items():
+        whole = b"".join(row)
+        assert len(whole) < MOST_BYTES, call
+        (FOLDER / call).write_bytes(whole)
+        print(f"{call}: {len(row)} records, {len(whole)} bytes")
     print("by refusal:", ", ".join(f"{refusal}: {n}" for refusal, n in sorted(refusals.items())))
 
 main()

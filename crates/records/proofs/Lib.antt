@@ -1,7 +1,4 @@
-pub mod Agrees
-pub mod Compared
-pub mod Lent
-pub mod Numbers
-pub mod Rows
-pub mod Sames
-pub mod Walks
+pub mod Answering
+pub mod Comparing
+pub mod Decoding
+pub mod Standing

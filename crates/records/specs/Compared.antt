@@ -1,34 +1,39 @@
--- How the answers of a file compare: the first record that differs.
-use Rattle.definition.specs.Text.{ℕ, suc, _-_, Bool, true, false, List, [], _∷_, take}
+-- How the records of a file compare: the first that does not agree.
+use Rattle.definition.specs.Text.{ℕ, zero, suc, _+_, _-_, Bool, true, false, _&&_, List, length, leb, ltb, getD, take, if_then_else_}
 use lib.ListN.{drop}
-use Rattle.records.specs.Agrees.{agrees}
-use Rattle.records.specs.Rows.{file}
-use Rattle.records.specs.declared.record.Found.{Found}
-use Rattle.records.specs.declared.record.Found.the-variants.{Record, End, Cut}
+use Rattle.records.specs.Numbers.{number}
+use Rattle.records.specs.Stand.{far}
+use Rattle.records.specs.Answers.{answer-behind}
 use Rattle.records.specs.declared.Comparison.{Comparison}
 use Rattle.records.specs.declared.Comparison.the-variants.{Same, Differs}
 
--- The bytes from a place to another.
-abbrev pub part : List ℕ → ℕ → ℕ → List ℕ
-part s from to = take (to - from) (drop from s)
+-- A record at a place: how many bytes its input has (a byte), a number, the input, and then the numbers of the answer.
+abbrev pub answer-at : List ℕ → ℕ → ℕ
+answer-at s at = at + 5 + getD s at 0
 
--- Whether what was found agrees; what is cut off does not.
-unfoldable pub found-agrees : List ℕ → Found → Bool
-found-agrees s (Record call input input-end answer next) = agrees call (part s input input-end) (part s answer next)
-found-agrees s End = true
-found-agrees s Cut = false
+abbrev pub input-at : List ℕ → ℕ → List ℕ
+input-at s at = take (answer-at s at - (at + 5)) (drop (at + 5) s)
 
--- The call of what was found; 0: it is none.
-abbrev pub call-of : Found → ℕ
-call-of (Record call input input-end answer next) = call
-call-of End = 0
-call-of Cut = 0
+-- The place behind it, where the next one begins; far: it is cut off, or other numbers answer the call.
+unfoldable pub behind : ℕ → List ℕ → ℕ → ℕ
+behind call s at = if ltb (length s) (answer-at s at) then far else answer-behind call (number s (at + 1)) (input-at s at) s (answer-at s at)
 
--- The first that does not agree, where the first of all has this number.
-unfoldable pub compared-from : ℕ → List ℕ → List Found → Comparison
-compared-from number s [] = Same
-compared-from number s (f ∷ fs) = elim (found-agrees s f) [ true ↦ compared-from (suc number) s fs | false ↦ Differs number (call-of f) ]
+-- Whether a record agrees: the next one begins further on, within the file.
+abbrev pub agrees : ℕ → List ℕ → ℕ → Bool
+agrees call s at = ltb at (behind call s at) && leb (behind call s at) (length s)
+
+-- The records from a place on, at most so many, where some were read before.
+unfoldable pub compared-from : ℕ → ℕ → ℕ → List ℕ → ℕ → Comparison
+compared-from zero records call s at = Same records
+compared-from (suc more) records call s at =
+    elim (ltb at (length s)) [
+      | true ↦ elim (agrees call s at) [
+        | true ↦ compared-from more (suc records) call s (behind call s at)
+        | false ↦ Differs (suc records)
+      ]
+      | false ↦ Same records
+    ]
 
 -- All of a file.
-abbrev pub compared : List ℕ → Comparison
-compared s = compared-from 1 s (file s)
+abbrev pub compared : ℕ → List ℕ → Comparison
+compared call s = compared-from (length s) 0 call s 0

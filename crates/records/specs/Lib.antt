@@ -1,5 +1,5 @@
-pub mod Agrees
+pub mod Answers
 pub mod Compared
 pub mod Numbers
-pub mod Rows
 pub mod Rubbish
+pub mod Stand

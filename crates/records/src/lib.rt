@@ -1,47 +1,58 @@
-// Recorded answers of the calls (compare/record.py tells the format): read, run again and compared.
+// Recorded answers of the calls (compare/record.py tells the format): run again and compared.
 pub mod agree;
-pub mod number;
-pub mod record;
-pub mod rubbish;
+mod number;
+mod rubbish;
+mod stand;
 
-use agree::agrees;
-use record::Found;
-use record::record_at;
+use number::byte;
+use number::number;
+use stand::FAR;
 ghost use mathlib.Core.Path.{_≡_};
-ghost use Rattle.records.specs.Compared.{compared};
+ghost use Prim.Native.Nat.{_<_};
+ghost use lib.ListN.{length};
+ghost use Rattle.records.specs.Compared.{behind as Compared·behind, compared};
 
-// How the answers of a file compare.
+// How the records of a file compare.
 pub enum Comparison {
-    // Each is the same.
-    Same,
-    // The record of this number, from 1, and of this call is the first that differs; call 0: it is cut off.
-    Differs { number: usize, call: u8 },
+    // Each agrees, and there are so many.
+    Same { records: usize },
+    // The record of this number, from 1, is the first that does not.
+    Differs { number: usize },
 }
 
-// Compares the answers of a file.
-pub fn compare(s: &[u8]) -> Comparison
-    ensures { λ r. ⌜ r ≡ compared (now (s .entry)) ⌝ }
+// The bytes of a record in front of its input.
+const FRAME: usize = 5;
+
+// The place behind a record, or far where its answer is not the call's.
+fn behind(call: u8, s: &[u8], at: usize) -> usize
+    requires { ⌜ at < length (now s) ⌝ }
+    ensures { λ r. ⌜ r ≡ Compared·behind call (now (s .entry)) at ⌝ }
 {
-    let mut number: usize = 1;
-    let mut at = 0;
-    loop {
-        match record_at(s, at) {
-            Found::Record {
-                call,
-                input,
-                input_end,
-                answer,
-                next,
-            } => {
-                if agrees(call, &s[input..input_end], &s[answer..next]) {
-                    number += 1;
-                    at = next;
-                } else {
-                    return Comparison::Differs { number, call };
-                }
-            }
-            Found::End => return Comparison::Same,
-            Found::Cut => return Comparison::Differs { number, call: 0 },
-        }
+    let size = byte(s, at) as usize;
+    if s.len() - at < FRAME + size {
+        return FAR;
     }
+    let input = at + FRAME;
+    let answer = input + size;
+    agree::answered(call, number(s, at + 1), &s[input..answer], s, answer)
+}
+
+// Compares the records of a call.
+pub fn compare(call: u8, s: &[u8]) -> Comparison
+    ensures { λ r. ⌜ r ≡ compared call (now (s .entry)) ⌝ }
+{
+    let mut records: usize = 0;
+    let mut at = 0;
+    while at < s.len() {
+        let next = behind(call, s, at);
+        records += 1;
+        if next <= at {
+            return Comparison::Differs { number: records };
+        }
+        if s.len() < next {
+            return Comparison::Differs { number: records };
+        }
+        at = next;
+    }
+    Comparison::Same { records }
 }

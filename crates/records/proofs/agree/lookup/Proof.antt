@@ -1,6 +1,6 @@
--- `lookup` compares the outcome of looking an offset up.
+-- `lookup` reads the line starts.
 use Rattle.text.proofs.Cases.{cases}
-use Rattle.records.proofs.Agrees.{no-offset, looked-agrees}
+use Rattle.records.proofs.Answering.{read-long, read-behind, long-behind}
 use Rattle.records.proofs.agree.lookup.Statement.{statement}
 use Rattle.records.proofs.agree.lookup.Tie as tie
 
@@ -8,12 +8,11 @@ pub lookup-spec : {M : Type 1} → statement M
 lookup-spec =
     tie.close
     (tie.spec
-    (λ c. search (no-offset, cases))
-    (λ c. search cases)
-    (λ c. search cases)
-    (λ c. search cases)
-    (λ c. search cases)
     (λ c κs. search cases)
     (λ c. search cases)
     (λ c κs. search cases)
-    (λ c. search (looked-agrees, cases)))
+    (λ c. search (long-behind, cases))
+    (λ c. search cases)
+    (λ c. search (read-long, cases))
+    (λ c κs. search cases)
+    (λ c. search (read-behind, cases)))

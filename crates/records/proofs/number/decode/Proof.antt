@@ -3,7 +3,7 @@ use Prim.Native.Nat.{_-_}
 use native.Mathlib.Omega.{arith}
 use lib.ListN.{length}
 use Rattle.text.proofs.Cases.{cases}
-use Rattle.records.proofs.Numbers.{Decoding, decode-none, decode-more, decode-long, decode-all}
+use Rattle.records.proofs.Decoding.{Decoding, decode-none, decode-more, decode-long, decode-all}
 use Rattle.records.proofs.number.decode.Statement.{statement}
 use Rattle.records.proofs.number.decode.Tie as tie
 
