@@ -108,6 +108,15 @@ trivia-tested = record { none = refl; same = λ t z. refl }
 pub inline-tested : Tested inline inlined
 inline-tested = record { none = refl; same = λ t z. rw (ne-eqb (t .kind) 0 z) refl }
 
+-- So what is left to read begins with a leaf that passes exactly if the kind that is seen passes.
+pub peeked : {q : Leaf → Bool} {m : ℕ → Bool} → Tested q m → (src : List ℕ) (x : Seen) → peek q (unread src x) ≡ m (x .kind)
+unfolding peek
+peeked {q} {m} w src x = go (eqb (x .kind) 0) refl
+  where
+    go : (z : Bool) → eqb (x .kind) 0 ≡ z → peek q (unread src x) ≡ m (x .kind)
+    go true i = let e = eqb-true (x .kind) 0 i in ap (peek q) (none-seen src x e) ∙ sym (w .none) ∙ ap m (sym e)
+    go false i = let z = eqb-false (x .kind) 0 i in ap (peek q) (one-seen src x z) ∙ w .same (leaf-seen src x) z
+
 pub passed-some : {q : Leaf → Bool} {m : ℕ → Bool} → Tested q m → (k : ℕ) → m k ≡ true → k ≡ 0 → ⊥
 passed-some {m = m} w k e z = false≢true (sym (w .none) ∙ ap m (sym z) ∙ e)
 
@@ -135,18 +144,14 @@ module _ {q : Leaf → Bool} {m : ℕ → Bool} (w : Tested q m) (src t₀ t : L
     skip-fewer = rw (rest-behind, one-seen src (r .seen) some) (omega arith)
 
   pub skip-done : b ≡ false → Takes src (skip q) t₀ r₀ t r
-  unfolding skip peek
+  unfolding skip
   skip-done e =
-      let p = not-passed (eqb (r .seen .kind) 0) refl in
+      let p : peek q (unread src (r .seen)) ≡ false = peeked w src (r .seen) ∙ sym d ∙ e in
       record {
         tree = rw leaves-row (tree-done k p);
         rest = rest-done k p;
         held = k .held;
       }
-    where
-      not-passed : (z : Bool) → eqb (r .seen .kind) 0 ≡ z → peek q (unread src (r .seen)) ≡ false
-      not-passed true i = ap (peek q) (none-seen src (r .seen) (eqb-true (r .seen .kind) 0 i))
-      not-passed false i = not-peeked src (r .seen) q (w .same (leaf-seen src (r .seen)) (eqb-false (r .seen .kind) 0 i) ∙ sym d ∙ e)
 
 pub trivia-done : (src t₀ t : List ℕ) (r₀ r : Run) → Writing src trivia t₀ (r₀ .pen) (r₀ .seen) t (r .pen) (r .seen) → (b : Bool) → b ≡ trivial (r .seen .kind) → b ≡ false
     → Takes src skip-trivia t₀ r₀ t r
