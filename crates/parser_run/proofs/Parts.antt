@@ -18,14 +18,14 @@ use Rattle.parser.specs.declared.Seen.{Seen}
 use Rattle.parser.specs.Rest.{unread, Held, inlined, Reading}
 use Rattle.parser.proofs.Taking.{none-seen, one-seen, Tested, inline-tested, peeked}
 use Rattle.parser_run.specs.declared.ParserRun.{ParserRun}
-use Rattle.parser_run.specs.Reads.{stand, Reads, Quiet, Took, Moves, Logs}
+use Rattle.parser_run.specs.Reads.{Stand, stand, Reads, Quiet, Took, Moves, Logs}
 use Rattle.parser_run.specs.Faults.{missing-fault}
 use Rattle.parser_run.specs.Expects.{kinds, either, passes, missed, expect-any, Expects}
 use Rattle.parser_run.proofs.Laws.{reads-is, reads-wrap, reads-raise, reads-maybe, maybe-none, bump-rowed}
 
 -- What the next function asks: a leaf that is held, beside what was asked before.
 module _ {src classes : List ℕ} {s : Seen} (d : Reading src classes s) where
-  ready : {s′ : Seen} → Held src s′ → Reading src classes s′
+  pub ready : {s′ : Seen} → Held src s′ → Reading src classes s′
   ready h = record { table = d .table; short = d .short; held = h }
 
   pub ready-took : {p : Reader} {t t′ : List ℕ} {st st′ : ParserRun} → Took src p t st t′ st′ → Reading src classes (st′ .run .seen)
@@ -69,7 +69,7 @@ fault-missed src n a b s h = go (eqb (s .kind) 0) refl
     go false e = let z = eqb-false (s .kind) 0 e in rw (one-seen src s z, e, h z .0, first-kind a b, second-kind a b) refl
 
 -- Taking a leaf meets no error.
-inline-errs : (ts : List Leaf) → maybe inline bump ts .errs ≡ []
+pub inline-errs : (ts : List Leaf) → maybe inline bump ts .errs ≡ []
 unfolding maybe nothing
 inline-errs ts = go (peek inline ts) refl
   where
@@ -96,7 +96,7 @@ either-tested a b = record { none = refl; same = λ t z. rw (ne-eqb (t .kind) 0 
 
 -- By the leaf that is seen, x: whether it passes a test, and the error for what is missing there.
 module _ (src : List ℕ) (st : ParserRun) {x : Seen} (s : x ≡ st .run .seen) where
-  seen-tested : {q : Leaf → Bool} {m : ℕ → Bool} → Tested q m → {b : Bool} → m (x .kind) ≡ b → peek q (unread src (st .run .seen)) ≡ b
+  pub seen-tested : {q : Leaf → Bool} {m : ℕ → Bool} → Tested q m → {b : Bool} → m (x .kind) ≡ b → peek q (unread src (st .run .seen)) ≡ b
   seen-tested {m = m} w e = peeked w src (st .run .seen) ∙ ap (λ (u : Seen). m (u .kind)) (sym s) ∙ e
 
   logged : {classes : List ℕ} {f : Fault} (a b : ℕ) {e e′ : List ℕ} {st₁ st₂ : ParserRun} → Reading src classes (st .run .seen) → f ≡ missing-fault (length src) x a b
@@ -113,6 +113,13 @@ module _ {src : List ℕ} {st : ParserRun} {x : Seen} (s : x ≡ st .run .seen) 
 
   pub inline-bump : {b : Bool} {t t′ : List ℕ} {st′ : ParserRun} → b ≡ ends (x .kind) → b ≡ false → Took src bump t st t′ st′ → Took src (maybe inline bump) t st t′ st′
   inline-bump d e y = record { reads = λ o l. reads-maybe inline (seen-tested src st s inline-tested (ap not (sym d ∙ e))) (y .reads o l) }
+
+  -- A reader goes on only at a leaf of kind k.
+  pub maybe-here : {k : ℕ} {p : Reader} {t o e : List ℕ} {m : Stand} → (k ≡ 0 → ⊥) → x .kind ≡ k → Reads src p (stand t o e st) m → Reads src (maybe (is k) p) (stand t o e st) m
+  maybe-here {k} z i r = reads-maybe (is k) (seen-tested src st s (is-tested k z) (eq-eqb (x .kind) k i)) r
+
+  pub maybe-other : {k : ℕ} (p : Reader) {t o e : List ℕ} → (k ≡ 0 → ⊥) → (x .kind ≡ k → ⊥) → Held src (st .run .seen) → Reads src (maybe (is k) p) (stand t o e st) (stand t o e st)
+  maybe-other {k} p z i h = maybe-none (is k) p (seen-tested src st s (is-tested k z) (ne-eqb (x .kind) k i)) h
 
   -- A leaf of kind k,
   pub expect-here : {k : ℕ} {t o e t′ : List ℕ} {st′ : ParserRun} → (k ≡ 0 → ⊥) → x .kind ≡ k → Took src bump t st t′ st′
