@@ -1,7 +1,7 @@
 -- `expect_next`: trivia, then the leaf.
+use borrow.Author.Needs.{needs}
 use Rattle.parser_run.proofs.Parts.{ready-took}
 use Rattle.parser_run.proofs.Laws.{reads-then}
-use borrow.Author.Needs.{needs}
 use Rattle.directives.proofs.expect_next.Statement.{statement}
 use Rattle.directives.proofs.expect_next.Tie as tie
 

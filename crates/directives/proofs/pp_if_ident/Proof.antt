@@ -1,6 +1,6 @@
 -- `pp_if_ident` is a PP_IDENT.
-use Rattle.definition.specs.Syntax.{pp-if-ident}
 use borrow.Author.Needs.{needs}
+use Rattle.definition.specs.Syntax.{pp-if-ident}
 use Rattle.directives.proofs.pp_if_ident.Statement.{statement}
 use Rattle.directives.proofs.pp_if_ident.Tie as tie
 

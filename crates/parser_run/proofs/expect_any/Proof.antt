@@ -15,4 +15,4 @@ expect-any-spec = tie.close (tie.spec
     (λ c κs. search cases)
     (λ c. search cases)
     (λ c. search cases)
-    (λ c. any-missed (c .before .before .before .before .before .before .before .before .before .before .before .peek .ensures) (c .before .before .before .before .before .before .is-expected .ensures) (c .before .before .before .before .before .before .before .before .before .bump-inline .ensures) (c .before .before .before .before .before .before .before .before .before .before .before .before .before .before .before .pre) (c .before .before .before .before .before .if1 .left) (c .before .before .before .missing .ensures) (c .before .before .push-error .ensures)))
+    (λ c. let h = c .before .before .before .before .before .before .before .before .before .before .before .before .before .before .before .pre in search (any-missed, cases)))

@@ -15,4 +15,4 @@ expect-one-spec = tie.close (tie.spec
     (λ c κs. search cases)
     (λ c. search cases)
     (λ c. search cases)
-    (λ c. expect-other (c .before .before .before .before .before .before .before .before .before .before .before .before .peek .ensures) (c .before .before .before .before .before .before .before .before .before .before .before .before .before .before .before .before .pre .1) (c .before .before .before .before .before .before .before .before .before .before .before .before .before .before .before .before .pre .0) (c .before .before .before .before .before .before .before .before .before .before .if1 .left) (c .before .before .before .before .before .before .before .node-bump .ensures) (c .before .before .before .missing .ensures) (c .before .before .push-error .ensures)))
+    (λ c. let h = c .before .before .before .before .before .before .before .before .before .before .before .before .before .before .before .before .pre in search (expect-other, cases)))

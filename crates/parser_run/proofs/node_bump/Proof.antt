@@ -10,4 +10,4 @@ node-bump-spec = tie.close (tie.spec
     (λ c κs. search (ready-moved, cases))
     (λ c κs. search cases)
     (λ c. search cases)
-    (λ c. node-bump-is (c .before .before .before .before .before .before .before .before .before .before .before .before .before .before .before .before .pre .1) (c .before .before .before .before .before .before .before .before .before .before .before .start-node .ensures) (c .before .before .before .before .before .before .before .bump .ensures) (c .before .before .finish-node .ensures)))
+    (λ c. let b = c .before .before .before .before .before .before .before .before .before .before .before .before .before .before .before .before .pre .1 in search (node-bump-is, cases)))

@@ -1,11 +1,12 @@
 -- `args`: trivia and a place in turn.
-use borrow.Author.Needs.{needs}
-use Rattle.directives.proofs.Listing.{Listing, list-start, list-end, list-more, list-fewer}
-use Rattle.parser_run.proofs.Parts.{ready, ready-took}
-use Rattle.parser_run.specs.Reads.{stand}
-use Rattle.parser.specs.Rest.{unread}
 use native.Mathlib.Omega.{arith}
+use borrow.Author.Needs.{needs}
 use lib.ListN.{length}
+use Rattle.text.proofs.Cases.{cases}
+use Rattle.parser.specs.Rest.{unread}
+use Rattle.parser_run.specs.Reads.{stand}
+use Rattle.parser_run.proofs.Parts.{ready, ready-took}
+use Rattle.directives.proofs.Listing.{Listing, list-start, list-end, list-more, list-fewer}
 use Rattle.directives.proofs.args.args.Statement.{statement}
 use Rattle.directives.proofs.args.args.Tie as tie
 
@@ -25,8 +26,8 @@ args-spec = tie.close (tie.spec
     (λ c κs. ready-took (c .before .before .before .before .before .before .before .before .before .before .before .before .pre) (c .before .before .before .before .before .before .skip-trivia .ensures))
     (λ c κs. search needs)
     (λ c κs. search needs)
-    (λ c. omega (arith, c .before .before .before .before .before .errors .given, c .before .before .before .before .before .before .before .table2 .given, c .before .before .before .before .before .before .before .before .before .before .before .before .before .before .table .given, c .before .before .before .before .before .before .before .before .before .before .before .before .before .before .before .before .before .loop .inv))
-    (λ c. omega (arith, c .before .before .before .before .before .errors .given, c .before .before .before .before .before .before .before .table2 .given, c .before .before .before .before .before .before .before .before .before .before .before .before .before .before .table .given, c .before .before .before .before .before .before .before .before .before .before .before .before .before .before .before .before .before .loop .inv))
-    (λ c. list-end (c .before .before .before .before .before .before .before .before .before .before .before .before .before .before .before .before .before .loop .inv) (c .before .before .before .before .before .before .before .before .before .before .before .before .before .before .before .skip-trivia .ensures) (c .before .before .before .before .before .before .before .before .before .before .before .before .peek .ensures) (c .before .before .before .before .before .before .before .before .place .ensures) (c .before .before .before .worse .ensures) (c .before .closes .ensures) (c .if1 .taken))
-    (λ c. list-fewer (c .before .before .before .before .before .before .before .before .before .before .before .before .before .before .before .before .before .loop .inv) (c .before .before .before .before .before .before .before .before .before .before .before .before .before .before .before .skip-trivia .ensures) (c .before .before .before .before .before .before .before .before .before .before .before .before .peek .ensures) (c .before .before .before .before .before .before .before .before .place .ensures) (c .before .before .before .worse .ensures) (c .before .closes .ensures) (c .if1 .left))
-    (λ c. list-more (c .before .before .before .before .before .before .before .before .before .before .before .before .before .before .before .before .before .loop .inv) (c .before .before .before .before .before .before .before .before .before .before .before .before .before .before .before .skip-trivia .ensures) (c .before .before .before .before .before .before .before .before .before .before .before .before .peek .ensures) (c .before .before .before .before .before .before .before .before .place .ensures) (c .before .before .before .worse .ensures) (c .before .closes .ensures) (c .if1 .left) (omega (arith, c .before .before .before .before .before .errors .given, c .before .before .before .before .before .before .before .table2 .given, c .before .before .before .before .before .before .before .before .before .before .before .before .before .before .table .given)) (omega (arith, c .before .before .before .before .before .errors .given, c .before .before .before .before .before .before .before .table2 .given, c .before .before .before .before .before .before .before .before .before .before .before .before .before .before .table .given))))
+    (λ c. omega arith)
+    (λ c. omega arith)
+    (λ c. let h = c .before .before .before .before .before .before .before .before .before .before .before .before .before .before .before .before .before .loop .inv in search (list-end, cases))
+    (λ c. let h = c .before .before .before .before .before .before .before .before .before .before .before .before .before .before .before .before .before .loop .inv in search (list-fewer, cases))
+    (λ c. list-more (c .before .before .before .before .before .before .before .before .before .before .before .before .before .before .before .before .before .loop .inv) (c .before .before .before .before .before .before .before .before .before .before .before .before .before .before .before .skip-trivia .ensures) (c .before .before .before .before .before .before .before .before .before .before .before .before .peek .ensures) (c .before .before .before .before .before .before .before .before .place .ensures) (c .before .before .before .worse .ensures) (c .before .closes .ensures) (c .if1 .left) (omega arith) (omega arith)))

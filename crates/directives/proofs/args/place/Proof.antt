@@ -1,7 +1,8 @@
 -- `place`: an argument in its node, or a leaf that is expected.
-use Rattle.directives.proofs.Places.{place-node, place-any}
 use mathlib.Core.Path.{refl}
 use borrow.Author.Needs.{needs}
+use Rattle.text.proofs.Cases.{cases}
+use Rattle.directives.proofs.Places.{place-node, place-any}
 use Rattle.directives.proofs.args.place.Statement.{statement}
 use Rattle.directives.proofs.args.place.Tie as tie
 
@@ -11,9 +12,9 @@ place-spec = tie.close (tie.spec
     (λ c κs. search needs)
     (λ c κs. (c .before .before .before .before .before .before .before .before .pre, refl))
     (λ c. search needs)
-    (λ c. place-node _ (c .before .before .before .before .before .before .before .peek .ensures) (c .before .before .before .before .before .before .opens .ensures) (c .before .before .before .before .before .if1 .taken) (c .before .before .node-bump .ensures))
+    (λ c. let h = c .before .before .before .before .before .before .before .peek .ensures in search (place-node, cases))
     (λ c κs. search needs)
     (λ c κs. search needs)
     (λ c. search needs)
     (λ c. search needs)
-    (λ c. place-any _ (c .before .before .before .before .before .before .before .before .before .before .before .before .peek .ensures) (c .before .before .before .before .before .before .before .before .before .before .before .opens .ensures) (c .before .before .before .before .before .before .before .before .before .before .if1 .left) (c .before .before .before .before .before .before .before .wanted .ensures) (c .before .before .before .before .before .before .expect-any .ensures)))
+    (λ c. let h = c .before .before .before .before .before .before .before .before .before .before .before .before .peek .ensures in search (place-any, cases)))
