@@ -1,2 +1,3 @@
 // The directives (`syntax.rs`).
+pub mod line;
 pub mod word;
