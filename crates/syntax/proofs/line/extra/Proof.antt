@@ -14,4 +14,4 @@ extra-spec = tie.close (tie.spec
     (λ c. search cases)
     (λ c. extra-known (c .before .before .before .before .before .before .before .before .before .before .error-row .ensures) (c .before .before .before .before .before .before .before .before .before .before .before .before .before .before .before .before .before .args .w) (c .before .before .before .before .before .before .before .before .before .before .before .before .before .before .before .before .before .pre .1 .1 .0) (c .before .before .before .before .before .before .before .before .before .before .before .before .before .before .before .before .before .pre .1 .1 .1) (c .before .before .before .before .before .before .before .if1 .taken) (c .before .before .before .before .before .before .before .before .before .before .before .before .before .peek .ensures) (c .before .before .before .before .named-error .ensures) (c .before .before .push-error .ensures))
     (λ c. search cases)
-    (λ c. extra-unknown (c .before .before .before .error-row .ensures) (c .before .before .before .before .before .before .before .before .before .before .args .w) (c .if1 .left)))
+    (λ c. search (extra-unknown, cases)))
