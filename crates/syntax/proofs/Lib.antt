@@ -2,3 +2,5 @@ pub mod Words
 pub mod Search
 pub mod Tails
 pub mod Groups
+pub mod Lines
+pub mod Items
