@@ -6,7 +6,7 @@ use mathlib.Core.List.{List, [], _∷_}
 use mathlib.Core.Option.{Option, none, some}
 use native.Mathlib.Omega.{arith}
 use native.Mathlib.Numerals.{add-one}
-use borrow.Author.Tests.{eqb-true, eqb-false, ne-eqb, eq-eqb}
+use borrow.Author.Tests.{ne-eqb, eq-eqb}
 use lib.Dec.{eqb}
 use lib.ListN.{length, take, length-take, length-drop}
 use Rattle.definition.specs.Text.{if_then_else_, Kind}
@@ -87,48 +87,48 @@ unfolding Held
 held-within src x h z = omega (arith, h z .0, h z .1, length-drop (x .start) (take (x .end) src), length-take (x .end) src)
 
 -- Where a loop stands: n brackets are open before x, and what is left of the group is what is left of g.
-pub record Inside (src : List ℕ) (l : Leaf) (g : Got) (n : ℕ) (x : Seen) : Type 0 where
+pub record Counting (src : List ℕ) (l : Leaf) (g : Got) (n : ℕ) (x : Seen) : Type 0 where
   pub errs : ahead l n (unread src x) .errs ≡ g .errs
   pub rest : ahead l n (unread src x) .rest ≡ g .rest
   pub held : Held src x
   pub few : n ≤ x .start
 
-at-lparen : (src : List ℕ) (x : Seen) → x .kind ≡ Kind.LPAREN → ahead (leaf-seen src x) 0 (unread src x) ≡ group-at src x (unread src x)
-at-lparen src x k = rw (one-seen src x (λ e. omega arith)) (ahead-start _ _ _ (eq-eqb (x .kind) Kind.LPAREN k))
+from-lparen : (src : List ℕ) (x : Seen) → x .kind ≡ Kind.LPAREN → ahead (leaf-seen src x) 0 (unread src x) ≡ group-at src x (unread src x)
+from-lparen src x k = rw (one-seen src x (λ e. omega arith)) (ahead-start _ _ _ (eq-eqb (x .kind) Kind.LPAREN k))
 
-pub inside-start : (src : List ℕ) (x : Seen) → Held src x → x .kind ≡ Kind.LPAREN → Inside src (leaf-seen src x) (group-at src x (unread src x)) 0 x
-inside-start src x h k = let q = at-lparen src x k in record { errs = ap (λ g. g .errs) q; rest = ap (λ g. g .rest) q; held = h; few = omega arith }
+pub counting-start : (src : List ℕ) (x : Seen) → Held src x → x .kind ≡ Kind.LPAREN → Counting src (leaf-seen src x) (group-at src x (unread src x)) 0 x
+counting-start src x h k = let q = from-lparen src x k in record { errs = ap (λ g. g .errs) q; rest = ap (λ g. g .rest) q; held = h; few = omega arith }
 
 -- One leaf further, with k brackets open behind it.
-module _ {src : List ℕ} {l : Leaf} {g : Got} {n : ℕ} {x : Seen} (i : Inside src l g n x) where
-  pub inside-end : x .kind ≡ 0 → false ≡ closed g
+module _ {src : List ℕ} {l : Leaf} {g : Got} {n : ℕ} {x : Seen} (i : Counting src l g n x) where
+  pub counting-end : x .kind ≡ 0 → false ≡ closed g
   unfolding ahead pp-rs-ident
-  inside-end e = ap none-met (sym (ap (λ ts. ahead l n ts .errs) (none-seen src x e)) ∙ i .errs)
+  counting-end e = ap none-met (sym (ap (λ ts. ahead l n ts .errs) (none-seen src x e)) ∙ i .errs)
 
   module _ (z : x .kind ≡ 0 → ⊥) where
-    pub inside-few : length src ≤ longest-source → n ≤ longest-source
+    pub counting-few : length src ≤ longest-source → n ≤ longest-source
     unfolding Held
-    inside-few s = omega (arith, i .few, i .held z .1, held-within src x (i .held) z)
+    counting-few s = omega (arith, i .few, i .held z .1, held-within src x (i .held) z)
 
     module _ {k : ℕ} (e : k ≡ brackets (x .kind) n) where
       behind : ahead l n (unread src x) ≡ push (leaf-seen src x) (inside l k (leaves-from src (x .end) (x .angle)))
       unfolding ahead
       behind = ap (ahead l n) (one-seen src x z) ∙ ap (λ m. push (leaf-seen src x) (inside l m (leaves-from src (x .end) (x .angle)))) (sym e)
 
-      pub inside-closed : k ≡ 0 → true ≡ closed g
+      pub counting-closed : k ≡ 0 → true ≡ closed g
       unfolding inside nothing
-      inside-closed c = ap none-met (sym (ap (λ m. inside l m (leaves-from src (x .end) (x .angle)) .errs) c) ∙ sym (ap (λ h. h .errs) behind) ∙ i .errs)
+      counting-closed c = ap none-met (sym (ap (λ m. inside l m (leaves-from src (x .end) (x .angle)) .errs) c) ∙ sym (ap (λ h. h .errs) behind) ∙ i .errs)
 
       module _ {y : Seen} (s : Sees src (x .end) (x .angle) y) where
-        pub inside-fewer : length (unread src y) < length (unread src x)
-        inside-fewer = rw (s .rest, one-seen src x z) (omega arith)
+        pub counting-fewer : length (unread src y) < length (unread src x)
+        counting-fewer = rw (s .rest, one-seen src x z) (omega arith)
 
         onward : (k ≡ 0 → ⊥) → ahead l n (unread src x) ≡ push (leaf-seen src x) (ahead l k (unread src y))
         onward o = behind ∙ ap (push (leaf-seen src x)) (ap (inside l k) (sym (s .rest)) ∙ inside-ahead l k (unread src y) o)
 
-        pub inside-more : (k ≡ 0 → ⊥) → Inside src l g k y
+        pub counting-more : (k ≡ 0 → ⊥) → Counting src l g k y
         unfolding Held
-        inside-more o = record {
+        counting-more o = record {
           errs = sym (ap (λ h. h .errs) (onward o)) ∙ i .errs;
           rest = sym (ap (λ h. h .rest) (onward o)) ∙ i .rest;
           held = s .held;
@@ -137,14 +137,14 @@ module _ {src : List ℕ} {l : Leaf} {g : Got} {n : ℕ} {x : Seen} (i : Inside 
 
 -- The same with a writer: the leaves from x on still go to it.
 pub record Grouping (src : List ℕ) (l : Leaf) (g : Got) (t₀ : List ℕ) (p₀ : Pen) (n : ℕ) (x : Seen) (t : List ℕ) (p : Pen) : Type 0 where
-  pub at : Inside src l g n x
+  pub at : Counting src l g n x
   pub tree : leafs (sheet t p) (leaves (ahead l n (unread src x) .tree)) ≡ leafs (sheet t₀ p₀) (leaves (g .tree))
   pub long : length t ≡ length t₀
 
 pub grouping-start : (src t : List ℕ) (p : Pen) (x : Seen) → Held src x → x .kind ≡ Kind.LPAREN
     → Grouping src (leaf-seen src x) (group-at src x (unread src x)) t p 0 x t p
 grouping-start src t p x h k =
-    record { at = inside-start src x h k; tree = ap (λ h. leafs (sheet t p) (leaves (h .tree))) (at-lparen src x k); long = refl }
+    record { at = counting-start src x h k; tree = ap (λ h. leafs (sheet t p) (leaves (h .tree))) (from-lparen src x k); long = refl }
 
 -- A leaf more went to the writer.
 module _ {src : List ℕ} {l : Leaf} {g : Got} {t₀ : List ℕ} {p₀ : Pen} {n : ℕ} {x : Seen} {t : List ℕ} {p : Pen} (i : Grouping src l g t₀ p₀ n x t p) (z : x .kind ≡ 0 → ⊥)
@@ -158,7 +158,7 @@ module _ {src : List ℕ} {l : Leaf} {g : Got} {t₀ : List ℕ} {p₀ : Pen} {n
 
   pub grouping-more : {y : Seen} → Sees src (x .end) (x .angle) y → (k ≡ 0 → ⊥) → length t′ ≡ length t → Grouping src l g t₀ p₀ k y t′ p′
   grouping-more {y} s o q = record {
-    at = inside-more (i .at) z e s o;
+    at = counting-more (i .at) z e s o;
     tree = ap (λ h. leafs (sheet t′ p′) (leaves (h .tree))) (sym (inside-ahead l k (unread src y) o) ∙ ap (inside l k) (s .rest)) ∙ tree-behind;
     long = q ∙ i .long;
   }

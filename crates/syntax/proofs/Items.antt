@@ -5,8 +5,8 @@ use mathlib.Core.Bool.{Bool, true, false, _||_, or-assoc}
 use mathlib.Core.List.{List, [], _∷_, _++_}
 use mathlib.Core.Option.{Option, none, some}
 use native.Mathlib.Omega.{arith}
-use Rattle.definition.specs.Tree.{Leaf, Forest, nil, node, row, _▹_, leaves, body-kind}
-use Rattle.definition.specs.Parser.{trivia, while, after, Got, Reader, _then_, skip, skip-trivia, bump}
+use Rattle.definition.specs.Tree.{Leaf, nil, leaf, node, row, _▹_, leaves, body-kind}
+use Rattle.definition.specs.Parser.{trivia, while, after, Got, Reader, _then_, skip, skip-trivia, nothing, bump}
 use Rattle.definition.specs.Syntax.{depth, pp-rs-ident, Line, control-line, hash-item, relexed}
 use Rattle.theorems.specs.Height.{crowded}
 use Rattle.theorems.proofs.Combinators.{▹-assoc}
@@ -17,13 +17,15 @@ use Rattle.theorems.proofs.Replay.Laws.{shut}
 use Rattle.tree.specs.Machine.{Open, Shut, writer, events, step, run}
 use Rattle.tree.proofs.Runs.{run-▹, run-node}
 use Rattle.error.specs.Log.{log, adds}
+use Rattle.parser.specs.declared.Seen.{Seen}
 use Rattle.parser.specs.declared.Run.{Run}
-use Rattle.parser.specs.Rest.{unread, Takes}
+use Rattle.parser.specs.Rest.{leaf-seen, unread, Takes}
 use Rattle.parser_run.specs.declared.ParserRun.{ParserRun}
-use Rattle.parser_run.specs.Reads.{with-run, Stand, stand, writer-at, unread-at, Gives, Reads, Took, Moves}
+use Rattle.parser_run.specs.Reads.{with-run, Stand, stand, unread-at, Gives, Reads, Took, Moves}
 use Rattle.parser_run.proofs.Laws.{reads-is, reads-then, Rowed, bump-rowed, took}
 use Rattle.syntax.specs.Line.{Ends, hash-front, hash-reader}
-use Rattle.syntax.specs.Group.{group-at}
+use Rattle.syntax.specs.Group.{group-at, nodeless}
+use Rattle.syntax.proofs.Lines.{silent, closed-at}
 
 -- What a reader reads in an open node, which is then shut.
 pub ends-by : {src : List ℕ} {p : Reader} {l : Line} {m : Stand} {t o e t′ o′ : List ℕ} {st st′ : ParserRun} {k : ℕ} → l .node-kind ≡ some k → l .got ≡ p (unread-at src m)
@@ -84,3 +86,37 @@ module _ {src : List ℕ} (n : ℕ) where
               ∙ ap (λ c. st .over || c) (sym (crowded-node (v .kind) (a .tree ▹ l .got .tree) (ordinary (low-line n relexed (a .rest) .kind) (v .kind-is)) ∙ crowded-▹ (a .tree) (l .got .tree)));
         });
       }
+
+-- A group is leaves alone.
+group-row : (l : Leaf) (d : ℕ) (ts : List Leaf) → pp-rs-ident l d ts .tree ≡ row (leaves (pp-rs-ident l d ts .tree))
+unfolding pp-rs-ident nothing bump row leaves
+group-row l d [] = refl
+group-row l d (t ∷ ts) = go (depth t d) refl (λ k. group-row l k ts)
+  where
+    go : (o : Option ℕ) → depth t d ≡ o → ((k : ℕ) → pp-rs-ident l k ts .tree ≡ row (leaves (pp-rs-ident l k ts .tree)))
+        → pp-rs-ident l d (t ∷ ts) .tree ≡ row (leaves (pp-rs-ident l d (t ∷ ts) .tree))
+    go none e ih = rw (e, pp-rs-ident) refl
+    go (some k) e ih = rw (e, pp-rs-ident) (ap (leaf t) (ih k))
+
+group-rowed : (src : List ℕ) (x : Seen) → Rowed (silent (group-at src x))
+unfolding _then_ bump _▹_ row leaves
+group-rowed src x = record { tree = λ ts. go ts; errs = λ ts. refl }
+  where
+    go : (ts : List Leaf) → group-at src x ts .tree ≡ row (leaves (group-at src x ts .tree))
+    go [] = group-row (leaf-seen src x) 0 []
+    go (t ∷ ts) = ap (leaf t) (group-row (leaf-seen src x) 0 ts)
+
+module _ {src : List ℕ} (n : ℕ) where
+  -- A closed group has no node.
+  pub hash-group : {t o e t₁ t₂ : List ℕ} {st st₁ st₂ : ParserRun} {r : Run} {b : Bool} → Took src hash-front t st t₁ st₁
+      → b ≡ nodeless (control-line n relexed (unread src (st₁ .run .seen))) → b ≡ true
+      → Takes src (group-at src (st₁ .run .seen)) t₁ (st₁ .run) t₂ r → st₂ ≡ with-run st₁ r → Reads src (hash-reader n) (stand t o e st) (stand t₂ o e st₂)
+  unfolding _then_
+  hash-group {t} {o} {e} {t₁} {t₂} {st} {st₁} {st₂} {r} x q i y s =
+      let ts : List Leaf = unread src (st .run .seen) in
+      let p : Reader = silent (group-at src (st₁ .run .seen)) in
+      let a : Got = hash-front ts in
+      let k : Took src p t₁ st₁ t₂ st₂ = took (group-rowed src (st₁ .run .seen)) src t₁ t₂ st₁ st₂ r (record { tree = y .tree; rest = y .rest; held = y .held }) s in
+      let u : control-line n relexed (a .rest) ≡ record { node-kind = none; got = p (a .rest) } = rw (x .reads o e .gives .rest) at (closed-at src (st₁ .run .seen) n relexed q i) in
+      reads-is (reads-then (x .reads o e) (k .reads o e)) (hash-shut n ts ∙ ap (shut (λ c. a .tree ▹ c)) u
+      ∙ ap (λ es. record { tree = a .tree ▹ p (a .rest) .tree; errs = es ++ []; rest = p (a .rest) .rest }) (sym (front-errs ts)))

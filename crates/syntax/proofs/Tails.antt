@@ -4,10 +4,10 @@ use mathlib.Core.Path.{_≡_, refl, sym, ap, _∙_}
 use mathlib.Core.Bool.{Bool, true, false, not, false≢true}
 use mathlib.Core.List.{List, [], _∷_}
 use borrow.Author.Tests.{not-true, not-false}
-use Rattle.definition.specs.Text.{if_then_else_, Kind}
-use Rattle.definition.specs.Tree.{Leaf, leaves}
+use Rattle.definition.specs.Text.{Kind}
+use Rattle.definition.specs.Tree.{Leaf}
 use Rattle.definition.specs.Error.{Err, ErrorKind, named-error}
-use Rattle.definition.specs.Parser.{newline-leaf, inline, while, peek, raise, Reader, _then_, wrap, skip, nothing, bump}
+use Rattle.definition.specs.Parser.{newline-leaf, inline, while, peek, _then_, wrap, skip, nothing, bump}
 use Rattle.definition.specs.Syntax.{last-stop, extra, finish}
 use Rattle.theorems.specs.BodyRows.{ends}
 use Rattle.theorems.proofs.Tiling.Leaves.{leaves-row, while-yes}

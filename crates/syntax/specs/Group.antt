@@ -25,5 +25,5 @@ none-met es = elim es [ [] ↦ true | e ∷ es ↦ false ]
 abbrev pub closed : Got → Bool
 closed g = none-met (g .errs)
 
-abbrev pub no-node : Line → Bool  -- Only a closed group has no node.
-no-node l = elim (l .node-kind) [ none ↦ true | some k ↦ false ]
+abbrev pub nodeless : Line → Bool  -- Only a closed group has no node.
+nodeless l = elim (l .node-kind) [ none ↦ true | some k ↦ false ]

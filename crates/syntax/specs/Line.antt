@@ -1,9 +1,9 @@
 -- A directive's line: its end, and what a function promises that reads in a node that is open, and shuts it.
 use Prim.Native.Nat.{ℕ}
 use mathlib.Core.Path.{_≡_}
-use mathlib.Core.Bool.{Bool, true, false, _||_}
+use mathlib.Core.Bool.{Bool, false, _||_}
 use mathlib.Core.List.{List, [], _∷_}
-use mathlib.Core.Option.{Option, none, some}
+use mathlib.Core.Option.{some}
 use Rattle.definition.specs.Text.{if_then_else_, Kind}
 use Rattle.definition.specs.Tree.{Leaf}
 use Rattle.definition.specs.Error.{Err, ErrorKind, named-error}

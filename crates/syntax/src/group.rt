@@ -10,7 +10,7 @@ ghost use Rattle.definition.specs.Parser as reader;
 ghost use Rattle.definition.specs.Calls.{longest-source};
 ghost use Rattle.definition.specs.Syntax.{control-line, relexed};
 ghost use Rattle.parser.specs.Rest.{unread, Reading, Takes};
-ghost use Rattle.syntax.specs.Group.{brackets, group-at, closed, no-node};
+ghost use Rattle.syntax.specs.Group.{brackets, group-at, closed, nodeless};
 
 // How many brackets are open behind a leaf of this kind.
 fn brackets(kind: u8, count: u32) -> u32
@@ -70,7 +70,7 @@ fn closes(src: &[u8], classes: &[u8; 256], x: Seen) -> bool
 // Whether a closed group follows a HASH and its trivia: it has no node.
 pub fn is_group(src: &[u8], classes: &[u8; 256], x: Seen) -> bool
     requires { ⌜ Reading (now src) (now classes) x ⌝ }
-    ensures { λ r. ⌜ r ≡ no-node (control-line (length (now (src .entry))) relexed (unread (now (src .entry)) x)) ⌝ }
+    ensures { λ r. ⌜ r ≡ nodeless (control-line (length (now (src .entry))) relexed (unread (now (src .entry)) x)) ⌝ }
 {
     if x.kind == Kind::LPAREN {
         return closes(src, classes, x);

@@ -3,7 +3,7 @@ use Rattle.text.proofs.Cases.{cases}
 use lib.ListN.{length}
 use Rattle.parser.specs.Rest.{leaf-seen, unread}
 use Rattle.syntax.specs.Group.{group-at}
-use Rattle.syntax.proofs.Groups.{inside-few, inside-fewer, Grouping, grouping-start, grouping-more, grouping-closed, grouping-end}
+use Rattle.syntax.proofs.Groups.{counting-few, counting-fewer, Grouping, grouping-start, grouping-more, grouping-closed, grouping-end}
 use Rattle.syntax.proofs.group.pp_rs_ident.Statement.{statement}
 use Rattle.syntax.proofs.group.pp_rs_ident.Tie as tie
 
@@ -22,10 +22,10 @@ pp-rs-ident-spec = tie.close (tie.spec
     (λ c. search cases)
     (λ c. search (grouping-end, cases))
     (λ c κs. search cases)
-    (λ c κs. search (inside-few, cases))
+    (λ c κs. search (counting-few, cases))
     (λ c κs. search cases)
     (λ c κs. search cases)
     (λ c. search cases)
     (λ c. search (grouping-closed, cases))
-    (λ c. search (inside-fewer, cases))
+    (λ c. search (counting-fewer, cases))
     (λ c. search (grouping-more, cases)))
