@@ -1,2 +1,6 @@
 pub mod Words
 pub mod Search
+pub mod Tails
+pub mod Groups
+pub mod Lines
+pub mod Items

@@ -5,6 +5,7 @@ use mathlib.Core.List.{List, [], _∷_, _++_, append-assoc}
 use lib.ListN.{length}
 use Rattle.definition.specs.Tree.{Forest, nil, leaf, node, _▹_, row}
 use Rattle.definition.specs.Tree as tree
+use Rattle.definition.specs.Syntax.{last-stop}
 use Rattle.text.proofs.Rows.{length-put}
 use Rattle.tree.specs.Machine.{Event, Open, Shut, Leaf, leaf-event, events, numbers, open-entry, Sheet, Writer, with-levels, leafed, leafs, step, run}
 use Rattle.tree.proofs.Patch.{length-patched}
@@ -44,6 +45,12 @@ pub run-row : (o : List ℕ) (s : Sheet) (ts : List tree.Leaf) → run (with-lev
 unfolding run events row step leafs
 run-row o s [] = refl
 run-row o s (t ∷ ts) = run-row o (leafed (t .kind) (t .start) (tree.stop t) s) ts
+
+-- The pen stands where the last leaf ends.
+pub leafs-pos : (s : Sheet) (ts : List tree.Leaf) → leafs s ts .pen .pos ≡ last-stop (s .pen .pos) ts
+unfolding leafs leafed last-stop
+leafs-pos s [] = refl
+leafs-pos s (t ∷ ts) = leafs-pos (leafed (t .kind) (t .start) (tree.stop t) s) ts
 
 -- The length of the table.
 length-step : (e : Event) (w : Writer) → length (step e w .table) ≡ length (w .table)

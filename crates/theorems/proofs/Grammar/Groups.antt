@@ -56,20 +56,20 @@ module _ (n : ℕ) where
 
 -- How a leaf changes the number of open brackets.
 module _ (t : Leaf) where
-  depth-closed : rparen t ≡ true → depth t zero ≡ none
+  pub depth-closed : rparen t ≡ true → depth t zero ≡ none
   unfolding depth
   depth-closed e = rw e
 
-  depth-inner : (d : ℕ) → rparen t ≡ true → depth t (suc d) ≡ some d
+  pub depth-inner : (d : ℕ) → rparen t ≡ true → depth t (suc d) ≡ some d
   unfolding depth
   depth-inner d e = rw e
 
-  depth-opened : (d : ℕ) → lparen t ≡ true → depth t d ≡ some (suc d)
+  pub depth-opened : (d : ℕ) → lparen t ≡ true → depth t d ≡ some (suc d)
   unfolding depth
   depth-opened zero e = rw (of-kind t e)
   depth-opened (suc d) e = rw (of-kind t e)
 
-  depth-passed : (d : ℕ) → (lparen t || rparen t) ≡ false → depth t d ≡ some d
+  pub depth-passed : (d : ℕ) → (lparen t || rparen t) ≡ false → depth t d ≡ some d
   unfolding depth
   depth-passed zero e = rw (or-left (lparen t) (rparen t) e, or-right (lparen t) (rparen t) e)
   depth-passed (suc d) e = rw (or-left (lparen t) (rparen t) e, or-right (lparen t) (rparen t) e)

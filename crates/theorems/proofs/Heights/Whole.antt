@@ -52,13 +52,13 @@ unfolding directive
 low-directive w d o = low-then _ _ low-bump (low-then _ _ (o .shallow) (low-then _ _ low-trivia (low-finish _)))
 
 -- What follows a HASH: the kind of its node is no body's.
-data No-body : Option ℕ → Type 0 where
+pub data No-body : Option ℕ → Type 0 where
   no-node : No-body none
   of-kind : {k : ℕ} → body-kind k ≡ false → No-body (some k)
 
-record Low-line (l : Line) : Type 0 where
-  kind : No-body (l .node-kind)
-  low : Low inner (l .got .tree)
+pub record Low-line (l : Line) : Type 0 where
+  pub kind : No-body (l .node-kind)
+  pub low : Low inner (l .got .tree)
 
 group-kind : (g : Got) → No-body (group g .node-kind)
 group-kind g = go (g .errs)
@@ -92,7 +92,7 @@ module _ (n : ℕ) (again : List Leaf → List Leaf) where
       & record { no-body = refl; shallow = low-extension n }
       & done
 
-  low-line : (ts : List Leaf) → Low-line (control-line n again ts)
+  pub low-line : (ts : List Leaf) → Low-line (control-line n again ts)
   unfolding control-line
   low-line [] = record { kind = of-kind refl; low = low-nothing [] }
   low-line (t ∷ ts) = go (newline-leaf t) refl (is Kind.LPAREN t) refl

@@ -108,33 +108,33 @@ module _ (n : ℕ) (again : List Leaf → List Leaf) (recuts : (ts : List Leaf) 
       (again-then (c .reads) (d .reads) (ending t) (ending t) ts (k .again ts) (s .again) (starts-same (ending t (a .rest)) (a .rest) (s .same))))
 
 -- The kind of a line's node, whatever its errors; and of a group's.
-abbrev always : ℕ → List Err → Option ℕ
+abbrev pub always : ℕ → List Err → Option ℕ
 always k es = some k
 
-group-kind : List Err → Option ℕ
+abbrev pub group-kind : List Err → Option ℕ
 group-kind es = elim es [ [] ↦ none | e ∷ es ↦ some Kind.ERROR ]
 
 -- What follows a HASH: one equation a case.
 module _ (n : ℕ) (lex : List Leaf → List Leaf) where
-  line-nil : control-line n lex [] ≡ lined (always Kind.ERROR) (nothing [])
+  pub line-nil : control-line n lex [] ≡ lined (always Kind.ERROR) (nothing [])
   unfolding control-line
   line-nil = refl
 
   module _ (t : Leaf) where
-    line-empty : newline-leaf t ≡ true → (us : List Leaf) → control-line n lex (t ∷ us) ≡ lined (always Kind.PP_EMPTY) (bump (t ∷ us))
+    pub line-empty : newline-leaf t ≡ true → (us : List Leaf) → control-line n lex (t ∷ us) ≡ lined (always Kind.PP_EMPTY) (bump (t ∷ us))
     unfolding control-line
     line-empty a us = rw (a, control-line)
 
-    line-group : newline-leaf t ≡ false → is Kind.LPAREN t ≡ true → (us : List Leaf) → control-line n lex (t ∷ us) ≡ lined group-kind ((bump then pp-rs-ident t 0) (t ∷ us))
-    unfolding control-line group-kind
+    pub line-group : newline-leaf t ≡ false → is Kind.LPAREN t ≡ true → (us : List Leaf) → control-line n lex (t ∷ us) ≡ lined group-kind ((bump then pp-rs-ident t 0) (t ∷ us))
+    unfolding control-line
     line-group a b us = rw (a, b, control-line)
 
-    line-word : (d : Directive) → newline-leaf t ≡ false → is Kind.LPAREN t ≡ false → directive-named (directives n lex) (unescaped (t .bytes)) ≡ some d
+    pub line-word : (d : Directive) → newline-leaf t ≡ false → is Kind.LPAREN t ≡ false → directive-named (directives n lex) (unescaped (t .bytes)) ≡ some d
         → (us : List Leaf) → control-line n lex (t ∷ us) ≡ lined (always (d .node-kind)) (directive t d (t ∷ us))
     unfolding control-line
     line-word d a b c us = rw (a, b, c, control-line)
 
-    line-unknown : newline-leaf t ≡ false → is Kind.LPAREN t ≡ false → directive-named (directives n lex) (unescaped (t .bytes)) ≡ none
+    pub line-unknown : newline-leaf t ≡ false → is Kind.LPAREN t ≡ false → directive-named (directives n lex) (unescaped (t .bytes)) ≡ none
         → (us : List Leaf) → control-line n lex (t ∷ us) ≡ lined (always Kind.ERROR) (unknown t (t ∷ us))
     unfolding control-line
     line-unknown a b c us = rw (a, b, c, control-line)
