@@ -6,9 +6,10 @@ use borrow.Author.Tests.{eq-eqb, ne-eqb, eqb-true}
 use native.Mathlib.Omega.{arith}
 use Rattle.definition.specs.SyntaxKind.{Kind}
 use Rattle.definition.specs.Tree.{Leaf}
-use Rattle.definition.specs.Parser.{is, trivia, newline-leaf, inline}
+use Rattle.definition.specs.Parser.{is, trivia, newline-leaf, inline, after, peek}
 use Rattle.definition.specs.Syntax.{pasted}
 use Rattle.theorems.specs.BodyRows.{ahead, ends, op-ahead, ended, Known}
+use Rattle.theorems.proofs.Tiling.Leaves.{after-yes, after-stop}
 use Rattle.theorems.proofs.Grammar.Clean.{of-kind, trivia-inline}
 
 -- One equation a case.
@@ -34,6 +35,16 @@ module _ (t : Leaf) (ts : List Leaf) where
   pub ended-token : trivia t ≡ false → ended (t ∷ ts) ≡ newline-leaf t
   unfolding ended
   ended-token e = rw (e, ended)
+
+-- What trivia at the front does not change is the same behind it.
+pub behind-trivia : {A : Type 0} (f : List Leaf → A) → ((t : Leaf) (ts : List Leaf) → trivia t ≡ true → f (t ∷ ts) ≡ f ts) → (ts : List Leaf) → f (after trivia ts) ≡ f ts
+unfolding after peek
+behind-trivia f h [] = refl
+behind-trivia f h (t ∷ ts) = go (trivia t) refl (behind-trivia f h ts)
+  where
+    go : (b : Bool) → trivia t ≡ b → f (after trivia ts) ≡ f ts → f (after trivia (t ∷ ts)) ≡ f (t ∷ ts)
+    go true q ih = ap f (after-yes trivia t ts q) ∙ ih ∙ sym (h t ts q)
+    go false q ih = ap f (after-stop trivia (t ∷ ts) q)
 
 -- Trivia is no ##.
 pub trivia-plain : (t : Leaf) → trivia t ≡ true → is Kind.PP_CONCAT_OP t ≡ false
