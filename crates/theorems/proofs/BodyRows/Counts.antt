@@ -14,7 +14,7 @@ use Rattle.theorems.specs.BodyRows.{ended, row-reader, row-reader-within
 use Rattle.theorems.proofs.Tiling.Leaves.{leaves-▹, leaves-pp-tokens, trimmed-trailing, while-yes}
 use Rattle.theorems.proofs.Grammar.Clean.{trivia-inline}
 use Rattle.theorems.proofs.BodyRows.Ahead.{behind-trivia, trivia-plain}
-use Rattle.theorems.proofs.BodyRows.Whole.{row-whole, ended-line, trailing-trivia}
+use Rattle.theorems.proofs.BodyRows.Whole.{ended-line, trailing-trivia}
 use Rattle.theorems.proofs.BodyRows.Bodies.{trivial-first, body-line}
 use Rattle.theorems.proofs.BodyRows.Within.{row-within-same, row-within-alike}
 
@@ -84,14 +84,6 @@ module _ (a k : ℕ) (ts : List Leaf) where
   unfolding row-line-by
   body-within-alike = rw (body-line k ts) (alike-node (row-reader-within a) row-reader skip-trivia k ts (row-within-alike a ts))
 
-  pub body-within-count : body-kind k ≡ true → body-concats (row-line-within a k ts .tree) ≡ concat-ops (while inline ts) ∷ []
-  unfolding row-line-by wrap _then_ _▹_ skip-trivia skip
-  body-within-count h =
-      let g = row-reader-within a ts in
-      let e = row-within-alike a ts in
-      node-concats k h (g .tree) (row (while trivia (g .rest)))
-      ∙ rw (row-concats (while trivia (g .rest)), e .same-leaves, row-whole ts, leaves-pp-tokens (trimmed (while inline ts)), ops-trimmed (while inline ts)) refl
-
 -- Trivia before a body changes no count.
 ops-trivia-first : (t : Leaf) (ts : List Leaf) → trivia t ≡ true → concat-ops (while inline (t ∷ ts)) ≡ concat-ops (while inline ts)
 unfolding concat-ops
@@ -118,12 +110,6 @@ module _ (k : ℕ) (ts : List Leaf) where
     pub pp-body-within-alike : Alike ((skip-trivia then row-line-within a k) ts) (pp-body k ts)
     unfolding pp-body
     pp-body-within-alike = alike-behind (row-line-within a k) (body k) skip-trivia ts (body-within-alike a k (skip-trivia ts .rest))
-
-    pub pp-body-within-count : body-kind k ≡ true → body-concats ((skip-trivia then row-line-within a k) ts .tree) ≡ concat-ops (while inline ts) ∷ []
-    unfolding _then_ skip-trivia skip
-    pp-body-within-count h =
-        row-▹-concats (while trivia ts) (row-line-within a k (after trivia ts) .tree)
-        ∙ body-within-count a k (after trivia ts) h ∙ ap (λ n. n ∷ []) (ops-after ts)
 
 -- A body alone is one line.
 pub define-body-count : (bs : List ℕ) → body-concats (parse-define-body bs) ≡ concat-ops (while inline (leaves-from bs 0 false)) ∷ []
