@@ -12,6 +12,7 @@ ghost use Prim.Native.Nat.{_≤_};
 ghost use lib.ListN.{length};
 ghost use Rattle.definition.specs.Calls.{longest-source};
 ghost use Rattle.definition.specs.Parser as reader;
+ghost use Rattle.theorems.specs.BodyRows.{ends};
 ghost use Rattle.theorems.specs.LeavesFrom.{leaf-kind};
 ghost use Rattle.pre.specs.Table.{class-table};
 ghost use Rattle.tree.specs.Machine.{sheet, leafed};
@@ -108,7 +109,7 @@ pub fn see(src: &[u8], classes: &[u8; 256], at: u32, angle: bool) -> Seen
 }
 
 // A kind as a number of a table.
-fn wide(kind: u8) -> u32
+pub fn wide(kind: u8) -> u32
     ensures { λ r. ⌜ r ≡ kind ⌝ }
 {
     kind as u32
@@ -158,4 +159,14 @@ pub fn skip_trivia(src: &[u8], classes: &[u8; 256], table: &mut [u32], run: Run)
             return held;
         }
     }
+}
+
+// Whether a line ends at a leaf of this kind: at a NEWLINE, or where there is none.
+pub fn ends_row(kind: u8) -> bool
+    ensures { λ r. ⌜ r ≡ ends kind ⌝ }
+{
+    if kind == 0 {
+        return true;
+    }
+    kind == Kind::NEWLINE
 }
