@@ -2,6 +2,5 @@ pub mod Ahead
 pub mod Bodies
 pub mod Cases
 pub mod Counts
-pub mod Known
 pub mod Whole
 pub mod Within

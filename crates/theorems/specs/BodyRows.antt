@@ -20,11 +20,6 @@ unfoldable pub ended : List Leaf → Bool
 ended [] = true
 ended (t ∷ ts) = if trivia t then ended ts else newline-leaf t
 
--- Leaves whose kind is not 0: there `ends (ahead ts)` is `ended ts`.
-unfoldable pub Known : List Leaf → Type 0
-Known [] = Unit {0}
-Known (t ∷ ts) = (t .kind ≡ 0 → ⊥) × Known ts
-
 -- A node over what was got.
 abbrev pub under : ℕ → Got → Got
 under k g = record { tree = node k (g .tree) nil; errs = g .errs; rest = g .rest }
@@ -77,9 +72,6 @@ module _ (r : Reader) where
   row-line-by k = wrap k row-reader-by then skip-trivia
 
 -- With every ## in a node of its own, as the definition has it.
-abbrev pub concat : Reader
-concat = concat-by concat-rest
-
 abbrev pub pasting-rest : Reader
 pasting-rest = pasting-by concat-rest
 
@@ -103,10 +95,6 @@ abbrev pub row-line-within : ℕ → ℕ → Reader
 row-line-within a = row-line-by (concat-rest-within a)
 
 -- Behind a ##, from a leaf on that is no trivia, where the row has not ended.
-unfoldable pub concat-next : Reader
-concat-next [] = nothing []
-concat-next (t ∷ ts) = if is Kind.PP_CONCAT_OP t then wrap Kind.PP_CONCAT concat (t ∷ ts) else push t (concat-rest ts)
-
 unfoldable pub concat-next-within : ℕ → Reader
 concat-next-within a [] = nothing []
 concat-next-within a (t ∷ ts) =

@@ -5,8 +5,11 @@ ghost use lib.ListN.{replicate};
 ghost use Rattle.theorems.specs.Height.{open-levels};
 ghost use Rattle.tree.specs.Machine.{level-at, set-level, one-deeper};
 
-// 256 nested PP_CONCAT, a body, a directive, ROOT, and one to spare.
-pub const OPEN_LEVELS: usize = 260;
+// How many ## a body may hold.
+pub const MOST_CONCATS: u32 = 256;
+
+// A PP_CONCAT for each ##, a body, a directive, ROOT, and one to spare.
+pub const OPEN_LEVELS: usize = MOST_CONCATS as usize + 4;
 
 // All 0 at first: no node is open.
 pub fn levels() -> [usize; OPEN_LEVELS]

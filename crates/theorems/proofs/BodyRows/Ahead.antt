@@ -2,13 +2,13 @@
 use mathlib.Core.Path.{_≡_, refl, ap, sym, _∙_}
 use mathlib.Core.Bool.{Bool, true, false, not, true≢false}
 use mathlib.Core.List.{List, [], _∷_}
-use borrow.Author.Tests.{eq-eqb, ne-eqb, eqb-true}
+use borrow.Author.Tests.{ne-eqb, eqb-true}
 use native.Mathlib.Omega.{arith}
 use Rattle.definition.specs.SyntaxKind.{Kind}
 use Rattle.definition.specs.Tree.{Leaf}
-use Rattle.definition.specs.Parser.{is, trivia, newline-leaf, inline}
-use Rattle.definition.specs.Syntax.{pasted}
-use Rattle.theorems.specs.BodyRows.{ahead, ends, op-ahead, ended, Known}
+use Rattle.definition.specs.Parser.{is, trivia, newline-leaf, inline, after, peek}
+use Rattle.theorems.specs.BodyRows.{ahead, op-ahead, ended}
+use Rattle.theorems.proofs.Tiling.Leaves.{after-yes, after-stop}
 use Rattle.theorems.proofs.Grammar.Clean.{of-kind, trivia-inline}
 
 -- One equation a case.
@@ -35,6 +35,16 @@ module _ (t : Leaf) (ts : List Leaf) where
   unfolding ended
   ended-token e = rw (e, ended)
 
+-- What trivia at the front does not change is the same behind it.
+pub behind-trivia : {A : Type 0} (f : List Leaf → A) → ((t : Leaf) (ts : List Leaf) → trivia t ≡ true → f (t ∷ ts) ≡ f ts) → (ts : List Leaf) → f (after trivia ts) ≡ f ts
+unfolding after peek
+behind-trivia f h [] = refl
+behind-trivia f h (t ∷ ts) = go (trivia t) refl (behind-trivia f h ts)
+  where
+    go : (b : Bool) → trivia t ≡ b → f (after trivia ts) ≡ f ts → f (after trivia (t ∷ ts)) ≡ f (t ∷ ts)
+    go true q ih = ap f (after-yes trivia t ts q) ∙ ih ∙ sym (h t ts q)
+    go false q ih = ap f (after-stop trivia (t ∷ ts) q)
+
 -- Trivia is no ##.
 pub trivia-plain : (t : Leaf) → trivia t ≡ true → is Kind.PP_CONCAT_OP t ≡ false
 trivia-plain t e = go (is Kind.PP_CONCAT_OP t) refl
@@ -43,26 +53,8 @@ trivia-plain t e = go (is Kind.PP_CONCAT_OP t) refl
     go true q = absurd (true≢false (sym (rw (of-kind t q) at e)))
     go false q = q
 
--- A kind that is not 0 says whether the row has ended; 0 says so where every leaf has a kind.
-pub ended-newline : (ts : List Leaf) → ahead ts ≡ Kind.NEWLINE → ended ts ≡ true
-unfolding ended
-ended-newline [] e = refl
-ended-newline (t ∷ ts) e = go (trivia t) refl (ended-newline ts)
-  where
-    go : (b : Bool) → trivia t ≡ b → (ahead ts ≡ Kind.NEWLINE → ended ts ≡ true) → ended (t ∷ ts) ≡ true
-    go true q ih = ended-trivia t ts q ∙ ih (sym (ahead-trivia t ts q) ∙ e)
-    go false q ih = ended-token t ts q ∙ eq-eqb _ _ (sym (ahead-token t ts q) ∙ e)
-
-pub ended-none : (ts : List Leaf) → Known ts → ahead ts ≡ 0 → ended ts ≡ true
-unfolding ended Known
-ended-none [] n e = refl
-ended-none (t ∷ ts) n e = go (trivia t) refl (ended-none ts (n .1))
-  where
-    go : (b : Bool) → trivia t ≡ b → (ahead ts ≡ 0 → ended ts ≡ true) → ended (t ∷ ts) ≡ true
-    go true q ih = ended-trivia t ts q ∙ ih (sym (ahead-trivia t ts q) ∙ e)
-    go false q ih = absurd (n .0 (sym (ahead-token t ts q) ∙ e))
-
-pub more-ahead : (ts : List Leaf) → (ahead ts ≡ 0 → ⊥) → (ahead ts ≡ Kind.NEWLINE → ⊥) → ended ts ≡ false
+-- A row with another kind ahead than 0 and NEWLINE has not ended,
+more-ahead : (ts : List Leaf) → (ahead ts ≡ 0 → ⊥) → (ahead ts ≡ Kind.NEWLINE → ⊥) → ended ts ≡ false
 unfolding ahead
 more-ahead [] z n = absurd (z refl)
 more-ahead (t ∷ ts) z n = go (trivia t) refl (more-ahead ts)
@@ -71,25 +63,7 @@ more-ahead (t ∷ ts) z n = go (trivia t) refl (more-ahead ts)
     go true q ih = ended-trivia t ts q ∙ ih (λ e. z (ahead-trivia t ts q ∙ e)) (λ e. n (ahead-trivia t ts q ∙ e))
     go false q ih = ended-token t ts q ∙ ne-eqb _ _ (λ e. n (ahead-token t ts q ∙ e))
 
-pub ends-ended : (ts : List Leaf) → Known ts → ends (ahead ts) ≡ ended ts
-unfolding ahead ended Known
-ends-ended [] n = refl
-ends-ended (t ∷ ts) n = go (trivia t) refl (ends-ended ts (n .1))
-  where
-    go : (b : Bool) → trivia t ≡ b → ends (ahead ts) ≡ ended ts → ends (ahead (t ∷ ts)) ≡ ended (t ∷ ts)
-    go true q ih = rw (ahead-trivia t ts q, ended-trivia t ts q) ih
-    go false q ih = rw (ahead-token t ts q, ended-token t ts q, ne-eqb (t .kind) 0 (n .0)) refl
-
--- The definition's test for a ##, and that a row with one ahead has not ended.
-pub pasted-ahead : (ts : List Leaf) → pasted ts ≡ op-ahead ts
-unfolding pasted ahead
-pasted-ahead [] = refl
-pasted-ahead (t ∷ ts) = go (trivia t) refl (pasted-ahead ts)
-  where
-    go : (b : Bool) → trivia t ≡ b → pasted ts ≡ op-ahead ts → pasted (t ∷ ts) ≡ op-ahead (t ∷ ts)
-    go true q ih = rw (q, pasted, ahead) ih
-    go false q ih = rw (q, pasted, ahead) refl
-
+-- so neither has one with a ## ahead.
 pub op-goes-on : (ts : List Leaf) → op-ahead ts ≡ true → ended ts ≡ false
 op-goes-on ts k =
     let e : ahead ts ≡ Kind.PP_CONCAT_OP = eqb-true (ahead ts) Kind.PP_CONCAT_OP k in

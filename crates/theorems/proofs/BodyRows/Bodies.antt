@@ -5,7 +5,7 @@ use mathlib.Core.Bool.{Bool, true, false, true≢false}
 use mathlib.Core.List.{List, [], _∷_, _++_}
 use Rattle.definition.specs.Tree.{Leaf, row, _▹_}
 use Rattle.definition.specs.Parser.{trivia, inline, while, after, peek, _then_, wrap, skip, skip-trivia}
-use Rattle.definition.specs.Syntax.{all-trivia, trailing, body, pp-body}
+use Rattle.definition.specs.Syntax.{all-trivia, trailing, body}
 use Rattle.theorems.specs.BodyRows.{row-line-by, row-line}
 use Rattle.theorems.proofs.Tiling.Leaves.{while-yes, while-stop, after-yes, after-stop}
 use Rattle.theorems.proofs.Grammar.Clean.{trivia-inline, peek-after}
@@ -55,7 +55,3 @@ module _ (k : ℕ) (ts : List Leaf) where
   pub body-line : body k ts ≡ row-line k ts
   unfolding body row-line-by _then_ wrap _▹_
   body-line = rw (row-whole ts, skip-trailing ts) refl
-
-pub pp-body-line : (k : ℕ) (ts : List Leaf) → pp-body k ts ≡ (skip-trivia then row-line k) ts
-unfolding pp-body _then_
-pp-body-line k ts = rw (body-line k (skip-trivia ts .rest)) refl

@@ -6,7 +6,7 @@ use mathlib.Core.List.{List, [], _∷_}
 use Rattle.definition.specs.SyntaxKind.{Kind}
 use Rattle.definition.specs.Tree.{Leaf, row, _▹_}
 use Rattle.definition.specs.Parser.{is, trivia, peek, push, Reader, _then_, wrap, skip, skip-trivia, nothing, bump}
-use Rattle.theorems.specs.BodyRows.{op-ahead, ended, under, allow, concat-rest, concat-rest-within, concat-by, pasting-by, tokens-rest-by, tokens-next-by, row-reader-by, concat, concat-within, concat-next, concat-next-within}
+use Rattle.theorems.specs.BodyRows.{op-ahead, ended, under, allow, concat-rest, concat-rest-within, concat-by, pasting-by, tokens-rest-by, tokens-next-by, row-reader-by, concat-within, concat-next-within}
 use Rattle.theorems.proofs.Tiling.Leaves.{while-yes, while-stop, after-yes, after-stop}
 use Rattle.theorems.proofs.BodyRows.Ahead.{ended-trivia, trivia-plain}
 
@@ -44,33 +44,9 @@ module _ (t : Leaf) (ts : List Leaf) (e : ended (t ∷ ts) ≡ false) where
   unfolding concat-rest
   concat-rest-plain q = rw (e, q, concat-rest)
 
-  pub concat-rest-trivia : trivia t ≡ true → concat-rest (t ∷ ts) ≡ push t (concat-rest ts)
-  concat-rest-trivia q = concat-rest-plain (trivia-plain t q)
-
   pub concat-rest-op : is Kind.PP_CONCAT_OP t ≡ true → concat-rest (t ∷ ts) ≡ under Kind.PP_CONCAT (push t (concat-rest ts))
   unfolding concat-rest
   concat-rest-op q = rw (e, q, concat-rest)
-
--- From a leaf on that is no trivia.
-module _ (t : Leaf) (ts : List Leaf) where
-  pub concat-next-op : is Kind.PP_CONCAT_OP t ≡ true → concat-next (t ∷ ts) ≡ wrap Kind.PP_CONCAT concat (t ∷ ts)
-  unfolding concat-next
-  concat-next-op q = rw (q, concat-next)
-
-  pub concat-next-plain : is Kind.PP_CONCAT_OP t ≡ false → concat-next (t ∷ ts) ≡ push t (concat-rest ts)
-  unfolding concat-next
-  concat-next-plain q = rw (q, concat-next)
-
-  concat-here : ended (t ∷ ts) ≡ false → concat-rest (t ∷ ts) ≡ concat-next (t ∷ ts)
-  unfolding wrap concat-by _then_ bump _▹_
-  concat-here e = go (is Kind.PP_CONCAT_OP t) refl
-    where
-      go : (b : Bool) → is Kind.PP_CONCAT_OP t ≡ b → concat-rest (t ∷ ts) ≡ concat-next (t ∷ ts)
-      go true q = rw (concat-rest-op t ts e q, concat-next-op q) refl
-      go false q = rw (concat-rest-plain t ts e q, concat-next-plain q) refl
-
-pub concat-rest-on : (ts : List Leaf) → ended ts ≡ false → concat-rest ts ≡ (skip-trivia then concat-next) ts
-concat-rest-on = on concat-rest concat-next concat-rest-trivia (λ t ts e k. concat-here t ts e)
 
 -- Behind a ##, with an allowance.
 module _ (a : ℕ) where

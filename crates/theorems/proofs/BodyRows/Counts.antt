@@ -1,17 +1,20 @@
 -- The ## of a body: how many the definition counts, and a body read with an allowance of them.
 use Prim.Native.Nat.{ℕ, suc, _+_, _≤_}
 use mathlib.Core.Path.{_≡_, refl, ap, sym, _∙_}
-use mathlib.Core.Bool.{Bool, true, false}
+use mathlib.Core.Bool.{true, false}
 use mathlib.Core.List.{List, [], _∷_, _++_}
 use native.Mathlib.Omega.{arith}
-use Rattle.definition.specs.Tree.{Leaf, Forest, node, _▹_, leaves, row, body-kind, concat-ops, body-concats}
-use Rattle.definition.specs.Parser.{trivia, inline, while, after, peek, Reader, _then_, wrap, skip, skip-trivia}
-use Rattle.definition.specs.Syntax.{pp-tokens, all-trivia, trimmed, trailing, body, pp-body}
-use Rattle.theorems.specs.BodyRows.{row-reader, row-reader-within, row-line-by, row-line-within, Alike}
-use Rattle.theorems.proofs.Tiling.Leaves.{leaves-▹, leaves-pp-tokens, trimmed-trailing, while-yes, after-yes, after-stop}
+use Rattle.definition.specs.SyntaxKind.{Kind}
+use Rattle.definition.specs.Glue.{tokens}
+use Rattle.definition.specs.Tree.{Leaf, placed, Forest, nil, node, _▹_, leaves, row, body-kind, concat-ops, body-concats}
+use Rattle.definition.specs.Parser.{trivia, inline, while, after, Reader, _then_, wrap, skip, skip-trivia}
+use Rattle.definition.specs.Syntax.{pp-tokens, all-trivia, trimmed, trailing, body, pp-body, parse-define-body}
+use Rattle.theorems.specs.LeavesFrom.{leaves-from}
+use Rattle.theorems.specs.BodyRows.{ended, row-reader, row-reader-within, row-line-by, row-line-within, Alike}
+use Rattle.theorems.proofs.Tiling.Leaves.{leaves-▹, leaves-pp-tokens, trimmed-trailing, while-yes}
 use Rattle.theorems.proofs.Grammar.Clean.{trivia-inline}
-use Rattle.theorems.proofs.BodyRows.Ahead.{trivia-plain}
-use Rattle.theorems.proofs.BodyRows.Whole.{row-whole, trailing-trivia}
+use Rattle.theorems.proofs.BodyRows.Ahead.{behind-trivia, trivia-plain}
+use Rattle.theorems.proofs.BodyRows.Whole.{ended-line, trailing-trivia}
 use Rattle.theorems.proofs.BodyRows.Bodies.{trivial-first, body-line}
 use Rattle.theorems.proofs.BodyRows.Within.{row-within-same, row-within-alike}
 
@@ -31,6 +34,10 @@ unfolding concat-ops
 ops-trivia [] e = refl
 ops-trivia (t ∷ ts) e = let a = trivial-first t ts e in rw (trivia-plain t (a .0), ops-trivia ts (a .1)) refl
 
+-- Nor does a line that has ended.
+pub ops-ended : (ts : List Leaf) → ended ts ≡ true → concat-ops (while inline ts) ≡ 0
+ops-ended ts e = ops-trivia (while inline ts) (ended-line ts ∙ e)
+
 ops-trimmed : (us : List Leaf) → concat-ops (trimmed us) ≡ concat-ops us
 ops-trimmed us = omega (arith, ap concat-ops (trimmed-trailing us), ops-append (trimmed us) (trailing us), ops-trivia (trailing us) (trailing-trivia us))
 
@@ -40,11 +47,12 @@ module _ (k : ℕ) (h : body-kind k ≡ true) where
   unfolding body-concats
   node-concats c f = rw (h, body-concats) refl
 
+  line-count : (ts : List Leaf) (f : Forest) → body-concats (node k (pp-tokens (trimmed (while inline ts))) f) ≡ concat-ops (while inline ts) ∷ body-concats f
+  line-count ts f = let us = while inline ts in node-concats (pp-tokens (trimmed us)) f ∙ rw (leaves-pp-tokens (trimmed us), ops-trimmed us) refl
+
   pub body-count : (ts : List Leaf) → body-concats (body k ts .tree) ≡ concat-ops (while inline ts) ∷ []
   unfolding body
-  body-count ts =
-      let us = while inline ts in
-      node-concats (pp-tokens (trimmed us)) (row (trailing us)) ∙ rw (leaves-pp-tokens (trimmed us), row-concats (trailing us), ops-trimmed us) refl
+  body-count ts = line-count ts (row (trailing (while inline ts))) ∙ rw (row-concats (trailing (while inline ts))) refl
 
 -- Readings that differ in nodes alone, in a node, and with the same reader behind it or before it.
 module _ (p r q : Reader) where
@@ -76,24 +84,13 @@ module _ (a k : ℕ) (ts : List Leaf) where
   unfolding row-line-by
   body-within-alike = rw (body-line k ts) (alike-node (row-reader-within a) row-reader skip-trivia k ts (row-within-alike a ts))
 
-  pub body-within-count : body-kind k ≡ true → body-concats (row-line-within a k ts .tree) ≡ concat-ops (while inline ts) ∷ []
-  unfolding row-line-by wrap _then_ _▹_ skip-trivia skip
-  body-within-count h =
-      let g = row-reader-within a ts in
-      let e = row-within-alike a ts in
-      node-concats k h (g .tree) (row (while trivia (g .rest)))
-      ∙ rw (row-concats (while trivia (g .rest)), e .same-leaves, row-whole ts, leaves-pp-tokens (trimmed (while inline ts)), ops-trimmed (while inline ts)) refl
-
 -- Trivia before a body changes no count.
-ops-after : (ts : List Leaf) → concat-ops (while inline (after trivia ts)) ≡ concat-ops (while inline ts)
-unfolding after concat-ops peek
-ops-after [] = refl
-ops-after (t ∷ ts) = go (trivia t) refl (ops-after ts)
-  where
-    go : (b : Bool) → trivia t ≡ b → concat-ops (while inline (after trivia ts)) ≡ concat-ops (while inline ts)
-        → concat-ops (while inline (after trivia (t ∷ ts))) ≡ concat-ops (while inline (t ∷ ts))
-    go true q ih = rw (after-yes trivia t ts q, while-yes inline t ts (trivia-inline t q), trivia-plain t q, ih) (omega arith)
-    go false q ih = rw (after-stop trivia (t ∷ ts) q) refl
+ops-trivia-first : (t : Leaf) (ts : List Leaf) → trivia t ≡ true → concat-ops (while inline (t ∷ ts)) ≡ concat-ops (while inline ts)
+unfolding concat-ops
+ops-trivia-first t ts q = rw (while-yes inline t ts (trivia-inline t q), trivia-plain t q) (omega arith)
+
+pub ops-after : (ts : List Leaf) → concat-ops (while inline (after trivia ts)) ≡ concat-ops (while inline ts)
+ops-after = behind-trivia (λ ts. concat-ops (while inline ts)) ops-trivia-first
 
 row-▹-concats : (ts : List Leaf) (f : Forest) → body-concats (row ts ▹ f) ≡ body-concats f
 unfolding body-concats row _▹_
@@ -114,8 +111,7 @@ module _ (k : ℕ) (ts : List Leaf) where
     unfolding pp-body
     pp-body-within-alike = alike-behind (row-line-within a k) (body k) skip-trivia ts (body-within-alike a k (skip-trivia ts .rest))
 
-    pub pp-body-within-count : body-kind k ≡ true → body-concats ((skip-trivia then row-line-within a k) ts .tree) ≡ concat-ops (while inline ts) ∷ []
-    unfolding _then_ skip-trivia skip
-    pp-body-within-count h =
-        row-▹-concats (while trivia ts) (row-line-within a k (after trivia ts) .tree)
-        ∙ body-within-count a k (after trivia ts) h ∙ ap (λ n. n ∷ []) (ops-after ts)
+-- A body alone is one line.
+pub define-body-count : (bs : List ℕ) → body-concats (parse-define-body bs) ≡ concat-ops (while inline (leaves-from bs 0 false)) ∷ []
+unfolding parse-define-body body-concats leaves-from
+define-body-count bs = line-count Kind.PP_DEFINE_BODY refl (placed 0 (tokens false bs)) nil

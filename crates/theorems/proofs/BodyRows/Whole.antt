@@ -26,7 +26,7 @@ abbrev pub rowed : (List Leaf → Forest) → Reader
 rowed f ts = record { tree = f (kept ts); errs = []; rest = behind ts }
 
 -- A row has ended where its line is nothing but trivia.
-ended-line : (ts : List Leaf) → all-trivia (line ts) ≡ ended ts
+pub ended-line : (ts : List Leaf) → all-trivia (line ts) ≡ ended ts
 unfolding ended all-trivia while peek
 ended-line [] = refl
 ended-line (t ∷ ts) = go (trivia t) refl (newline-leaf t) refl (ended-line ts)

@@ -14,11 +14,11 @@ use Rattle.theorems.proofs.BodyRows.Whole.{line, line-more}
 
 -- How many ## a line has, leaf by leaf.
 module _ (t : Leaf) (ts : List Leaf) (e : ended (t ∷ ts) ≡ false) where
-  ops-op : is Kind.PP_CONCAT_OP t ≡ true → concat-ops (line (t ∷ ts)) ≡ suc (concat-ops (line ts))
+  pub ops-op : is Kind.PP_CONCAT_OP t ≡ true → concat-ops (line (t ∷ ts)) ≡ suc (concat-ops (line ts))
   unfolding concat-ops
   ops-op q = ap concat-ops (line-more t ts e) ∙ rw q (omega arith)
 
-  ops-plain : is Kind.PP_CONCAT_OP t ≡ false → concat-ops (line (t ∷ ts)) ≡ concat-ops (line ts)
+  pub ops-plain : is Kind.PP_CONCAT_OP t ≡ false → concat-ops (line (t ∷ ts)) ≡ concat-ops (line ts)
   unfolding concat-ops
   ops-plain q = ap concat-ops (line-more t ts e) ∙ rw q (omega arith)
 
