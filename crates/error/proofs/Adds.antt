@@ -1,6 +1,6 @@
 -- Errors added one after the other: all of them fit, or not all.
 use Prim.Native.Nat.{ℕ, _/_, _≤_, _<_}
-use mathlib.Core.Path.{_≡_, ap, sym, _∙_}
+use mathlib.Core.Path.{_≡_, refl, ap, sym, _∙_}
 use mathlib.Core.List.{List, [], _∷_, _++_, append-assoc, append-nil}
 use native.Mathlib.Omega.{arith}
 use lib.ListN.{length, length-replicate}
@@ -19,7 +19,13 @@ use Rattle.error.specs.Log.{fault-of, numbers, Log, log, add, adds}
 abbrev pub unlocated-numbers : List Err → List ℕ
 unlocated-numbers es = error-numbers [] es
 
--- They are laid row by row.
+-- Two rows of errors are added one after the other.
+pub adds-++ : (l : Log) (a b : List Err) → adds l (a ++ b) ≡ adds (adds l a) b
+unfolding adds
+adds-++ l [] b = refl
+adds-++ l (e ∷ a) b = adds-++ (add (fault-of e) l) a b
+
+-- The numbers of errors are laid row by row.
 pub adds-laid : (es : List Err) (done : List ℕ) (l m : Log) → Laid done l m → Laid (done ++ unlocated-numbers es) l (adds m es)
 unfolding adds add error-numbers get-line-and-col last-line
 adds-laid [] done l m k = rw (append-nil done) k

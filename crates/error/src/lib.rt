@@ -19,6 +19,21 @@ const COLUMN: usize = 4;
 // The line and the column of an error before they are filled in.
 const UNLOCATED: u32 = 0;
 
+// The sorts of errors, by their numbers; Rust's third is never raised.
+pub struct ErrorKind {
+    pub number: u32,
+}
+
+impl ErrorKind {
+    pub const UNKNOWN_DIRECTIVE: u32 = 1;
+
+    pub const EXTRA_TOKENS: u32 = 2;
+
+    pub const UNEXPECTED: u32 = 4;
+
+    pub const END_OF_INPUT: u32 = 5;
+}
+
 // An error as it is met: its sort, its range, the actual kind, up to two expected kinds, and the range of a name; 0 where there is none.
 pub struct Fault {
     pub sort: u32,

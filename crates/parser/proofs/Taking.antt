@@ -4,19 +4,19 @@ use native.Mathlib.Omega.{arith}
 use mathlib.Core.Path.{_≡_, refl, sym, ap, _∙_}
 use mathlib.Core.Bool.{Bool, true, false, false≢true}
 use mathlib.Core.List.{List, [], _∷_}
-use borrow.Author.Tests.{eq-eqb, ne-eqb}
+use borrow.Author.Tests.{eq-eqb, ne-eqb, eqb-true, eqb-false}
 use lib.Dec.{eqb}
 use lib.ListN.{length}
 use Rattle.definition.specs.Text.{if_then_else_}
 use Rattle.definition.specs.Tree.{Leaf, leaves}
-use Rattle.definition.specs.Parser.{trivia, while, after, peek, bump, skip, skip-trivia}
+use Rattle.definition.specs.Parser.{trivia, inline, while, after, peek, bump, skip, skip-trivia}
 use Rattle.theorems.specs.LeavesFrom.{leaves-from}
 use Rattle.theorems.proofs.Tiling.Leaves.{leaves-row, while-yes, while-stop, after-yes, after-stop}
 use Rattle.tree.specs.Machine.{sheet, leafed, leafs}
 use Rattle.tree.specs.declared.Pen.{Pen}
 use Rattle.parser.specs.declared.Seen.{Seen}
 use Rattle.parser.specs.declared.Run.{Run}
-use Rattle.parser.specs.Rest.{run-of, leaf-seen, unread, Held, Sees, trivial, Takes}
+use Rattle.parser.specs.Rest.{run-of, leaf-seen, unread, Held, Sees, trivial, inlined, Takes}
 
 module _ (src : List ℕ) (x : Seen) where
   pub none-seen : x .kind ≡ 0 → unread src x ≡ []
@@ -97,35 +97,63 @@ module _ {src : List ℕ} {q : Leaf → Bool} {t₀ : List ℕ} {p₀ : Pen} {x�
     rest-done : unread src x ≡ after q (unread src x₀)
     rest-done = rw (after-stop q (unread src x) d) at (k .rest)
 
--- Trivia is no end.
-pub some-trivia : (k : ℕ) → trivial k ≡ true → k ≡ 0 → ⊥
-some-trivia k e z = let q : trivial 0 ≡ true = rw z at e in false≢true q
+-- A test of leaves, and how code makes it of a kind; at the end, where the kind is 0, it fails.
+pub record Tested (q : Leaf → Bool) (m : ℕ → Bool) : Type 0 where
+  pub none : m 0 ≡ false
+  pub same : (t : Leaf) → (t .kind ≡ 0 → ⊥) → q t ≡ m (t .kind)
 
--- Taking trivia leaf by leaf.
-module _ (src t₀ t : List ℕ) (r₀ r : Run) (k : Writing src trivia t₀ (r₀ .pen) (r₀ .seen) t (r .pen) (r .seen)) (b : Bool) (d : b ≡ trivial (r .seen .kind)) where
+pub trivia-tested : Tested trivia trivial
+trivia-tested = record { none = refl; same = λ t z. refl }
+
+pub inline-tested : Tested inline inlined
+inline-tested = record { none = refl; same = λ t z. rw (ne-eqb (t .kind) 0 z) refl }
+
+-- So what is left to read begins with a leaf that passes exactly if the kind that is seen passes.
+pub peeked : {q : Leaf → Bool} {m : ℕ → Bool} → Tested q m → (src : List ℕ) (x : Seen) → peek q (unread src x) ≡ m (x .kind)
+unfolding peek
+peeked {q} {m} w src x = go (eqb (x .kind) 0) refl
+  where
+    go : (z : Bool) → eqb (x .kind) 0 ≡ z → peek q (unread src x) ≡ m (x .kind)
+    go true i = let e = eqb-true (x .kind) 0 i in ap (peek q) (none-seen src x e) ∙ sym (w .none) ∙ ap m (sym e)
+    go false i = let z = eqb-false (x .kind) 0 i in ap (peek q) (one-seen src x z) ∙ w .same (leaf-seen src x) z
+
+pub passed-some : {q : Leaf → Bool} {m : ℕ → Bool} → Tested q m → (k : ℕ) → m k ≡ true → k ≡ 0 → ⊥
+passed-some {m = m} w k e z = false≢true (sym (w .none) ∙ ap m (sym z) ∙ e)
+
+pub some-trivia : (k : ℕ) → trivial k ≡ true → k ≡ 0 → ⊥
+some-trivia = passed-some trivia-tested
+
+-- Taking the leaves that pass a test one by one.
+module _ {q : Leaf → Bool} {m : ℕ → Bool} (w : Tested q m) (src t₀ t : List ℕ) (r₀ r : Run) (k : Writing src q t₀ (r₀ .pen) (r₀ .seen) t (r .pen) (r .seen))
+    (b : Bool) (d : b ≡ m (r .seen .kind)) where
   module _ (t′ : List ℕ) (r′ : Run) (x : Takes src bump t r t′ r′) (e : b ≡ true) where
     some : r .seen .kind ≡ 0 → ⊥
-    some = some-trivia (r .seen .kind) (sym d ∙ e)
+    some = passed-some w (r .seen .kind) (sym d ∙ e)
 
     rest-behind : unread src (r′ .seen) ≡ leaves-from src (r .seen .end) (r .seen .angle)
     unfolding bump
     rest-behind = x .rest ∙ ap (λ l. bump l .rest) (one-seen src (r .seen) some)
 
-    pub skip-more : length t′ ≡ length t → Writing src trivia t₀ (r₀ .pen) (r₀ .seen) t′ (r′ .pen) (r′ .seen)
+    pub skip-more : length t′ ≡ length t → Writing src q t₀ (r₀ .pen) (r₀ .seen) t′ (r′ .pen) (r′ .seen)
     unfolding bump leaves leafs Held
     skip-more l =
-        write-more k some (sym d ∙ e) t′ (r′ .pen)
+        write-more k some (w .same (leaf-seen src (r .seen)) some ∙ sym d ∙ e) t′ (r′ .pen)
         (rw (one-seen src (r .seen) some, k .held some .0) at (x .tree)) (r′ .seen) rest-behind (x .held) l
 
     pub skip-fewer : length (unread src (r′ .seen)) < length (unread src (r .seen))
     skip-fewer = rw (rest-behind, one-seen src (r .seen) some) (omega arith)
 
-  pub skip-done : b ≡ false → Takes src skip-trivia t₀ r₀ t r
-  unfolding skip-trivia skip
+  pub skip-done : b ≡ false → Takes src (skip q) t₀ r₀ t r
+  unfolding skip
   skip-done e =
-      let p : peek trivia (unread src (r .seen)) ≡ false = not-peeked src (r .seen) trivia (sym d ∙ e) in
+      let p : peek q (unread src (r .seen)) ≡ false = peeked w src (r .seen) ∙ sym d ∙ e in
       record {
         tree = rw leaves-row (tree-done k p);
         rest = rest-done k p;
         held = k .held;
       }
+
+pub trivia-done : (src t₀ t : List ℕ) (r₀ r : Run) → Writing src trivia t₀ (r₀ .pen) (r₀ .seen) t (r .pen) (r .seen) → (b : Bool) → b ≡ trivial (r .seen .kind) → b ≡ false
+    → Takes src skip-trivia t₀ r₀ t r
+unfolding skip-trivia
+trivia-done src t₀ t r₀ r k b d e = skip-done trivia-tested src t₀ t r₀ r k b d e

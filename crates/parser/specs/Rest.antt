@@ -1,7 +1,7 @@
 -- What is left to read, and what a function promises that takes leaves.
 use Prim.Native.Nat.{ℕ, _≤_, _<_}
 use mathlib.Core.Path.{_≡_}
-use mathlib.Core.Bool.{Bool, _||_}
+use mathlib.Core.Bool.{Bool, _||_, not}
 use mathlib.Core.List.{List, [], _∷_}
 use lib.Dec.{eqb}
 use lib.ListN.{length}
@@ -10,6 +10,7 @@ use Rattle.definition.specs.Text.{if_then_else_, Kind}
 use Rattle.definition.specs.Tree.{Leaf, leaves, stop}
 use Rattle.definition.specs.Parser.{Reader}
 use Rattle.definition.specs.Calls.{longest-source}
+use Rattle.theorems.specs.BodyRows.{ends}
 use Rattle.theorems.specs.LeavesFrom.{leaves-from}
 use Rattle.pre.specs.Table.{class-table}
 use Rattle.tree.specs.Machine.{sheet, leafs}
@@ -42,6 +43,9 @@ pub record Sees (src : List ℕ) (at : ℕ) (angle : Bool) (s : Seen) : Type 0 w
 
 abbrev pub trivial : ℕ → Bool  -- Blanks, comments and continuations, which are WS leaves.
 trivial k = eqb k Kind.WS || eqb k Kind.COMMENT
+
+abbrev pub inlined : ℕ → Bool  -- A leaf other than NEWLINE.
+inlined k = not (ends k)
 
 -- What every function here asks: the table of classes, a source that is not refused for its length, and a leaf that is held.
 pub record Reading (src classes : List ℕ) (s : Seen) : Type 0 where

@@ -12,10 +12,11 @@ ghost use Prim.Native.Nat.{_≤_};
 ghost use lib.ListN.{length};
 ghost use Rattle.definition.specs.Calls.{longest-source};
 ghost use Rattle.definition.specs.Parser as reader;
+ghost use Rattle.theorems.specs.BodyRows.{ends};
 ghost use Rattle.theorems.specs.LeavesFrom.{leaf-kind};
 ghost use Rattle.pre.specs.Table.{class-table};
 ghost use Rattle.tree.specs.Machine.{sheet, leafed};
-ghost use Rattle.parser.specs.Rest.{run-of, Sees, trivial, Reading, Takes};
+ghost use Rattle.parser.specs.Rest.{run-of, Sees, trivial, inlined, Reading, Takes};
 
 // The leaf that is seen: its kind, 0 at the end of the source, its range, and whether an angle string is expected behind it. Start and end are not
 // neighbours: a copy of both at once would wait until each, just written, has reached memory.
@@ -33,7 +34,7 @@ pub struct Run {
 }
 
 // The same leaf, number by number: a copy of the whole would wait until its parts, just written, have reached memory.
-fn same(x: Seen) -> Seen
+pub fn same(x: Seen) -> Seen
     ensures { λ r. ⌜ r ≡ x ⌝ }
 {
     Seen {
@@ -108,7 +109,7 @@ pub fn see(src: &[u8], classes: &[u8; 256], at: u32, angle: bool) -> Seen
 }
 
 // A kind as a number of a table.
-fn wide(kind: u8) -> u32
+pub fn wide(kind: u8) -> u32
     ensures { λ r. ⌜ r ≡ kind ⌝ }
 {
     kind as u32
@@ -153,6 +154,39 @@ pub fn skip_trivia(src: &[u8], classes: &[u8; 256], table: &mut [u32], run: Run)
     loop {
         let seen = held.seen;
         if is_trivia(seen.kind) {
+            held = bump(src, classes, table, held);
+        } else {
+            return held;
+        }
+    }
+}
+
+// Whether a line ends at a leaf of this kind: at a NEWLINE, or where there is none.
+pub fn ends_row(kind: u8) -> bool
+    ensures { λ r. ⌜ r ≡ ends kind ⌝ }
+{
+    if kind == 0 {
+        return true;
+    }
+    kind == Kind::NEWLINE
+}
+
+// Whether a leaf of this kind is one of the line.
+fn is_inline(kind: u8) -> bool
+    ensures { λ r. ⌜ r ≡ inlined kind ⌝ }
+{
+    !ends_row(kind)
+}
+
+// Takes the rest of the line, up to its NEWLINE or the end.
+pub fn skip_inline(src: &[u8], classes: &[u8; 256], table: &mut [u32], run: Run) -> Run
+    requires { ⌜ Reading (now src) (now classes) (run .seen) ⌝ }
+    ensures { λ r. ⌜ Takes (now (src .entry)) (reader.skip reader.inline) (now (table .entry)) run (now (table .exit)) r ⌝ }
+{
+    let mut held = run;
+    loop {
+        let seen = held.seen;
+        if is_inline(seen.kind) {
             held = bump(src, classes, table, held);
         } else {
             return held;

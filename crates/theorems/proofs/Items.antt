@@ -23,7 +23,7 @@ use Rattle.theorems.proofs.Replay.Laws.{leaves-shut}
 use Rattle.theorems.proofs.Replay.Items.{front, leaves-front, hash-step, item-retold, file-nil, file-more}
 
 -- What follows the leading leaves that pass a test is no longer.
-after-short : (p : Leaf → Bool) (ts : List Leaf) → length (after p ts) ≤ length ts
+pub after-short : (p : Leaf → Bool) (ts : List Leaf) → length (after p ts) ≤ length ts
 after-short p ts = omega (arith, simp length-append at (ap length (while-after p ts)))
 
 -- A text line takes a leaf.

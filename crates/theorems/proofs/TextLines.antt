@@ -4,19 +4,13 @@ use native.Mathlib.Nat.{zero-add, suc-add}
 use mathlib.Core.Path.{_≡_, refl, ap, sym, _∙_}
 use mathlib.Core.Bool.{Bool, true, false, not}
 use mathlib.Core.List.{List, [], _∷_, _++_}
-use Rattle.definition.specs.Tree.{Leaf, Forest, nil, leaf, node, row, _▹_}
+use Rattle.definition.specs.Tree.{Leaf, row, _▹_}
 use Rattle.definition.specs.Parser.{trivia, newline-leaf, inline, while, after, peek, Got, push, _then_, skip, skip-trivia, nothing, bump}
 use Rattle.definition.specs.Syntax.{item, file}
 use Rattle.theorems.specs.TextLines.{Text, line-file, push-row, Lines}
+use Rattle.theorems.proofs.Combinators.{▹-assoc}
 use Rattle.theorems.proofs.Grammar.Clean.{trivia-inline}
 use Rattle.theorems.proofs.Tiling.Leaves.{while-yes, after-yes, while-stop, after-stop}
-
--- Forests joined in either order.
-▹-assoc : (f g h : Forest) → (f ▹ g) ▹ h ≡ f ▹ (g ▹ h)
-unfolding _▹_
-▹-assoc nil g h = refl
-▹-assoc (leaf t f) g h = ap (leaf t) (▹-assoc f g h)
-▹-assoc (node k c f) g h = ap (node k c) (▹-assoc f g h)
 
 module _ (n : ℕ) (again : List Leaf → List Leaf) where
   -- Of an empty row nothing is read.

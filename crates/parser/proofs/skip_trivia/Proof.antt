@@ -3,7 +3,7 @@ use lib.ListN.{length}
 use Rattle.definition.specs.Parser.{trivia}
 use Rattle.text.proofs.Cases.{cases}
 use Rattle.parser.specs.Rest.{unread}
-use Rattle.parser.proofs.Taking.{Writing, write-start, write-long, skip-more, skip-fewer, skip-done}
+use Rattle.parser.proofs.Taking.{trivia-tested, Writing, write-start, write-long, skip-more, skip-fewer, trivia-done}
 use Rattle.parser.proofs.skip_trivia.Statement.{statement}
 use Rattle.parser.proofs.skip_trivia.Tie as tie
 
@@ -20,7 +20,7 @@ skip-trivia-spec = tie.close (tie.spec
     (λ c. search (write-start, cases))
     (λ c κs. search cases)
     (λ c κs. search cases)
-    (λ c. search (skip-fewer, cases))
-    (λ c. search (skip-more, cases))
+    (λ c. search (skip-fewer trivia-tested, cases))
+    (λ c. search (skip-more trivia-tested, cases))
     (λ c. search (write-long, cases))
-    (λ c. search (skip-done, cases)))
+    (λ c. search (trivia-done, cases)))

@@ -1,14 +1,14 @@
 -- How deep rows of trees nest that are made of others, and how many ## their bodies hold.
 use Prim.Native.Nat.{ℕ, suc, max, _≤_}
-use mathlib.Core.Path.{_≡_, refl, sym}
-use mathlib.Core.Bool.{Bool, true, false, false≢true}
-use mathlib.Core.List.{List, [], _∷_, _++_, append-assoc}
+use mathlib.Core.Path.{_≡_, refl, sym, ap, _∙_}
+use mathlib.Core.Bool.{Bool, true, false, _||_, false≢true, or-assoc}
+use mathlib.Core.List.{List, [], _∷_, _++_, append-assoc, append-nil}
 use native.Mathlib.Omega.{arith}
 use borrow.Author.Tests.{ltb-false}
 use lib.Dec.{ltb}
 use Rattle.definition.specs.Tree.{Leaf, Forest, nil, leaf, node, _▹_, leaves, row, body-kind, concat-ops, body-concats}
 use Rattle.definition.specs.Calls.{most-concats, too-many}
-use Rattle.theorems.specs.Height.{height, largest, Low}
+use Rattle.theorems.specs.Height.{height, largest, Low, crowded}
 
 pub height-▹ : (f g : Forest) → height (f ▹ g) ≡ max (height f) (height g)
 unfolding height _▹_
@@ -51,6 +51,24 @@ concats-node k c f e = rw (e, body-concats)
 pub concats-body : (k : ℕ) (c f : Forest) → body-kind k ≡ true → body-concats (node k c f) ≡ concat-ops (leaves c) ∷ body-concats f
 unfolding body-concats
 concats-body k c f e = rw (e, body-concats)
+
+-- Whether a body holds too many ##: of two rows, of a node that is no body, of leaves.
+too-many-++ : (ms ns : List ℕ) → too-many (ms ++ ns) ≡ (too-many ms || too-many ns)
+unfolding too-many
+too-many-++ [] ns = refl
+too-many-++ (m ∷ ms) ns = ap (λ b. ltb most-concats m || b) (too-many-++ ms ns) ∙ sym (or-assoc (ltb most-concats m) (too-many ms) (too-many ns))
+
+pub crowded-▹ : (f g : Forest) → crowded (f ▹ g) ≡ (crowded f || crowded g)
+crowded-▹ f g = ap too-many (concats-▹ f g) ∙ too-many-++ (body-concats f) (body-concats g)
+
+pub crowded-node : (k : ℕ) (c : Forest) → body-kind k ≡ false → crowded (node k c nil) ≡ crowded c
+unfolding body-concats
+crowded-node k c e = ap too-many (concats-node k c nil e ∙ append-nil (body-concats c))
+
+pub crowded-row : (ts : List Leaf) → crowded (row ts) ≡ false
+unfolding body-concats row too-many
+crowded-row [] = refl
+crowded-row (t ∷ ts) = crowded-row ts
 
 -- The largest of two rows of numbers, and of those that are not too many.
 largest-append : (ms ns : List ℕ) → largest (ms ++ ns) ≡ max (largest ms) (largest ns)
