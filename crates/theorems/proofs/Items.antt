@@ -51,7 +51,7 @@ unfolding Placed bytes
 some-bytes a u us ts p = omega (arith, p .1, length-append (u .bytes) (bytes us))
 
 -- What follows leaves that lie somewhere lies behind them.
-lies-behind : (a : ℕ) (us ts : List Leaf) → Placed a (us ++ ts) → Placed (a + length (bytes us)) ts
+pub lies-behind : (a : ℕ) (us ts : List Leaf) → Placed a (us ++ ts) → Placed (a + length (bytes us)) ts
 unfolding Placed bytes
 lies-behind a [] ts p = rw (add-zero a) p
 lies-behind a (u ∷ us) ts p =

@@ -1,0 +1,60 @@
+-- From item to item the writer stands on the ground.
+use Prim.Native.Nat.{ℕ, suc, _+_, _≤_}
+use mathlib.Core.Path.{_≡_, refl, ap, sym, _∙_, subst}
+use mathlib.Core.Bool.{Bool, false, _||_}
+use mathlib.Core.List.{List, [], _∷_, _++_}
+use native.Mathlib.Omega.{arith}
+use lib.ListN.{length}
+use Rattle.definition.specs.Tree.{Leaf, long, leaves, size}
+use Rattle.definition.specs.Parser.{Got, Reader}
+use Rattle.theorems.specs.Placed.{Placed}
+use Rattle.theorems.specs.Height.{height, open-levels, crowded}
+use Rattle.theorems.proofs.Grammar.Clean.{or-left, or-right}
+use Rattle.theorems.proofs.Tiling.Tiles.{Recut, Tiles}
+use Rattle.theorems.proofs.Entries.{size-leaves}
+use Rattle.theorems.proofs.Items.{lies-behind}
+use Rattle.tree.specs.Machine.{writer, events, run}
+use Rattle.tree.specs.Writes.{Standing, Ready, Wrote}
+use Rattle.tree.proofs.Writes.{writes}
+use Rattle.parser_run.specs.Reads.{Stand, writer-at, unread-at, Gives, Reads}
+use Rattle.syntax.specs.Ground.{Grounded}
+
+-- A reading that tiles its row and nests no deeper than there are levels.
+pub record Fitting (g : Got) (ts : List Leaf) : Type 0 where
+  pub tiles : Tiles g ts
+  pub low : crowded (g .tree) ≡ false → suc (height (g .tree)) ≤ open-levels
+
+front-lies : (a : ℕ) (us ts : List Leaf) → Placed a (us ++ ts) → Placed a us
+unfolding Placed
+front-lies a [] ts p = tt
+front-lies a (u ∷ us) ts p = (p .0, p .1, front-lies (a + long u) us ts (p .2))
+
+module _ {src : List ℕ} {m m′ : Stand} {g : Got} (d : Grounded src m) (f : Fitting g (unread-at src m)) (x : Gives src g m m′) where
+  module _ (z : m′ .state .over ≡ false) where
+    before : m .state .over ≡ false
+    before = or-left _ _ (sym (x .over) ∙ z)
+
+    few : crowded (g .tree) ≡ false
+    few = or-right (m .state .over) _ (sym (x .over) ∙ z)
+
+    lies : Placed (m .state .run .pen .pos) (leaves (g .tree) ++ g .rest)
+    lies = f .tiles .lies _ (d .placed before)
+
+    -- The writer can write what was got,
+    pub ready : Ready (writer-at m) (g .tree)
+    ready = record {
+      standing = d .standing before;
+      low = let h = f .low few in omega (arith, d .below-root before);
+      placed = front-lies _ (leaves (g .tree)) (g .rest) lies;
+    }
+
+    wrote : Wrote (g .tree) (writer-at m) (writer-at m′)
+    wrote = rw (x .tree z) (writes (g .tree) (writer-at m) ready)
+
+  -- and stands on the ground behind it.
+  pub grounded : Grounded src m′
+  grounded = record {
+    standing = λ z. wrote z .standing;
+    below-root = λ z. wrote z .depth-kept ∙ d .below-root (before z);
+    placed = λ z. rw (wrote z .pos-is, x .rest, size-leaves (g .tree)) (lies-behind _ (leaves (g .tree)) (g .rest) (lies z));
+  }
