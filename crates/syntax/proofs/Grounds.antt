@@ -29,32 +29,29 @@ unfolding Placed
 front-lies a [] ts p = tt
 front-lies a (u ∷ us) ts p = (p .0, p .1, front-lies (a + long u) us ts (p .2))
 
-module _ {src : List ℕ} {m m′ : Stand} {g : Got} (d : Grounded src m) (f : Fitting g (unread-at src m)) (x : Gives src g m m′) where
-  module _ (z : m′ .state .over ≡ false) where
-    before : m .state .over ≡ false
-    before = or-left _ _ (sym (x .over) ∙ z)
+module _ {src : List ℕ} {m : Stand} {g : Got} (d : Grounded src m) (f : Fitting g (unread-at src m)) where
+  lies : m .state .over ≡ false → Placed (m .state .run .pen .pos) (leaves (g .tree) ++ g .rest)
+  lies z = f .tiles .lies _ (d .placed z)
 
-    few : crowded (g .tree) ≡ false
-    few = or-right (m .state .over) _ (sym (x .over) ∙ z)
-
-    lies : Placed (m .state .run .pen .pos) (leaves (g .tree) ++ g .rest)
-    lies = f .tiles .lies _ (d .placed before)
-
-    -- The writer can write what was got,
-    pub ready : Ready (writer-at m) (g .tree)
-    ready = record {
-      standing = d .standing before;
-      low = let h = f .low few in omega (arith, d .below-root before);
-      placed = front-lies _ (leaves (g .tree)) (g .rest) lies;
-    }
-
-    wrote : Wrote (g .tree) (writer-at m) (writer-at m′)
-    wrote = rw (x .tree z) (writes (g .tree) (writer-at m) ready)
+  -- The writer can write what was got,
+  pub ready : m .state .over ≡ false → crowded (g .tree) ≡ false → Ready (writer-at m) (g .tree)
+  ready z c = record {
+    standing = d .standing z;
+    low = let h = f .low c in omega (arith, d .below-root z);
+    placed = front-lies _ (leaves (g .tree)) (g .rest) (lies z);
+  }
 
   -- and stands on the ground behind it.
-  pub grounded : Grounded src m′
-  grounded = record {
-    standing = λ z. wrote z .standing;
-    below-root = λ z. wrote z .depth-kept ∙ d .below-root (before z);
-    placed = λ z. rw (wrote z .pos-is, x .rest, size-leaves (g .tree)) (lies-behind _ (leaves (g .tree)) (g .rest) (lies z));
-  }
+  module _ {m′ : Stand} (x : Gives src g m m′) where
+    before : m′ .state .over ≡ false → m .state .over ≡ false
+    before z = or-left _ _ (sym (x .over) ∙ z)
+
+    wrote : m′ .state .over ≡ false → Wrote (g .tree) (writer-at m) (writer-at m′)
+    wrote z = rw (x .tree z) (writes (g .tree) (writer-at m) (ready (before z) (or-right (m .state .over) _ (sym (x .over) ∙ z))))
+
+    pub grounded : Grounded src m′
+    grounded = record {
+      standing = λ z. wrote z .standing;
+      below-root = λ z. wrote z .depth-kept ∙ d .below-root (before z);
+      placed = λ z. rw (wrote z .pos-is, x .rest, size-leaves (g .tree)) (lies-behind _ (leaves (g .tree)) (g .rest) (lies (before z)));
+    }
