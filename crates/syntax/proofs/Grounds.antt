@@ -1,5 +1,5 @@
 -- From item to item the writer stands on the ground.
-use Prim.Native.Nat.{ℕ, suc, _+_, _≤_}
+use Prim.Native.Nat.{ℕ, _+_}
 use mathlib.Core.Path.{_≡_, refl, ap, sym, _∙_, subst}
 use mathlib.Core.Bool.{Bool, false, _||_}
 use mathlib.Core.List.{List, [], _∷_, _++_}
@@ -8,9 +8,9 @@ use lib.ListN.{length}
 use Rattle.definition.specs.Tree.{Leaf, long, leaves, size}
 use Rattle.definition.specs.Parser.{Got, Reader}
 use Rattle.theorems.specs.Placed.{Placed}
-use Rattle.theorems.specs.Height.{height, open-levels, crowded}
+use Rattle.theorems.specs.Height.{crowded}
 use Rattle.theorems.proofs.Grammar.Clean.{or-left, or-right}
-use Rattle.theorems.proofs.Tiling.Tiles.{Recut, Tiles}
+use Rattle.theorems.proofs.Tiling.Tiles.{Recut}
 use Rattle.theorems.proofs.Entries.{size-leaves}
 use Rattle.theorems.proofs.Items.{lies-behind}
 use Rattle.tree.specs.Machine.{writer, events, run}
@@ -18,11 +18,7 @@ use Rattle.tree.specs.Writes.{Standing, Ready, Wrote}
 use Rattle.tree.proofs.Writes.{writes}
 use Rattle.parser_run.specs.Reads.{Stand, writer-at, unread-at, Gives, Reads}
 use Rattle.syntax.specs.Ground.{Grounded}
-
--- A reading that tiles its row and nests no deeper than there are levels.
-pub record Fitting (g : Got) (ts : List Leaf) : Type 0 where
-  pub tiles : Tiles g ts
-  pub low : crowded (g .tree) ≡ false → suc (height (g .tree)) ≤ open-levels
+use Rattle.syntax.specs.Advance.{Fitting}
 
 front-lies : (a : ℕ) (us ts : List Leaf) → Placed a (us ++ ts) → Placed a us
 unfolding Placed

@@ -2,3 +2,4 @@ pub mod Words
 pub mod Search
 pub mod Grounds
 pub mod Tails
+pub mod Advancing
