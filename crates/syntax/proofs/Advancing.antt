@@ -2,26 +2,29 @@
 use Prim.Native.Nat.{ℕ, suc, _+_, _<_, _≤_}
 use mathlib.Core.Path.{_≡_, refl, ap, sym, _∙_, subst}
 use mathlib.Core.Bool.{Bool, true, false}
-use mathlib.Core.List.{List, [], _∷_, _++_}
+use mathlib.Core.List.{List, [], _∷_, _++_, append-assoc, append-nil}
 use native.Mathlib.Omega.{arith}
 use lib.Dec.{eqb}
 use lib.ListN.{length, length-append}
 use borrow.Author.Tests.{eqb-true, eqb-false}
-use Rattle.definition.specs.Tree.{Leaf, long, row, bytes, leaves}
-use Rattle.definition.specs.Parser.{trivia, while, after, Got, Reader, _then_}
+use Rattle.definition.specs.Tree.{Leaf, long, stop, row, _▹_, bytes, leaves}
+use Rattle.definition.specs.Parser.{trivia, while, after, peek, Got, push, Reader, _then_}
 use Rattle.definition.specs.Syntax.{item, relexed}
 use Rattle.theorems.specs.Placed.{Placed}
 use Rattle.theorems.specs.Height.{height}
 use Rattle.theorems.specs.TextLines.{Text, push-row, Lines}
 use Rattle.theorems.proofs.LeavesFrom.{leaves-lies}
-use Rattle.theorems.proofs.Tiling.Leaves.{leaves-row, bytes-append}
+use Rattle.theorems.proofs.Tiling.Leaves.{leaves-row, bytes-append, while-after}
 use Rattle.theorems.proofs.Tiling.Tiles.{recut-same, recut-relexed}
 use Rattle.theorems.proofs.Heights.Whole.{height-item}
 use Rattle.theorems.proofs.Replay.Items.{item-retold}
+use Rattle.theorems.proofs.TextLines.{lines-end}
 use Rattle.theorems.proofs.Items.{some-bytes, item-fewer, items-one, items-lines, items-behind}
-use Rattle.tree.specs.Machine.{sheet, leafs}
+use Rattle.tree.specs.Machine.{Sheet, sheet, leafed, leafs}
+use Rattle.tree.specs.declared.Pen.{Pen}
 use Rattle.parser.specs.declared.Seen.{Seen}
 use Rattle.parser.specs.declared.Run.{Run}
+use Rattle.parser.specs.Lines.{Lined}
 use Rattle.parser.specs.Rest.{leaf-seen, unread, Held}
 use Rattle.parser.proofs.Taking.{none-seen, one-seen}
 use Rattle.parser_run.specs.declared.ParserRun.{ParserRun}
@@ -67,6 +70,17 @@ fewer-behind : (a : ℕ) (us vs : List Leaf) → 0 < length us → Placed a (us 
 fewer-behind a [] vs n p = absurd (omega arith)
 fewer-behind a (u ∷ us) vs n p = rw (bytes-append (u ∷ us) vs, length-append (bytes (u ∷ us)) (bytes vs)) (omega (arith, some-bytes a u us vs p))
 
+-- Two rows, one after the other.
+leafs-++ : (s : Sheet) (us vs : List Leaf) → leafs s (us ++ vs) ≡ leafs (leafs s us) vs
+unfolding leafs
+leafs-++ s [] vs = refl
+leafs-++ s (u ∷ us) vs = leafs-++ (leafed (u .kind) (u .start) (stop u) s) us vs
+
+push-rows : (us vs : List Leaf) (g : Got) → push-row us (push-row vs g) ≡ push-row (us ++ vs) g
+unfolding row _▹_
+push-rows [] vs g = refl
+push-rows (u ∷ us) vs g = ap (push u) (push-rows us vs g)
+
 -- Leaves that were taken as they are.
 module _ (src t t′ : List ℕ) (st : ParserRun) (r : Run) (us : List Leaf) where
   abbrev ts : List Leaf
@@ -97,3 +111,47 @@ module _ (src t t′ : List ℕ) (st : ParserRun) (r : Run) (us : List Leaf) whe
           fewer = rw j (fewer-behind _ us vs n p);
         };
       }
+
+-- Text lines,
+module _ (src t t′ : List ℕ) (st : ParserRun) (r : Run) (h : Held src (st .run .seen)) where
+  abbrev row-of : List Leaf
+  row-of = unread src (st .run .seen)
+
+  lies : Placed (st .run .seen .start) row-of
+  lies = seen-lies src (st .run .seen) h
+
+  -- from what is seen on,
+  pub advance-lines : Text row-of → 0 < length row-of → Lined src row-of t (st .run .pen) t′ r → (o e : List ℕ)
+      → Advances src (stand t o e st) (stand t′ o e (with-run st r))
+  advance-lines x n l = advance-row src t t′ st r (l .taken) h (l .lines .joins) (l .some n) (l .tree) (l .held)
+      (items-lines (length src) relexed recut-relexed _ (l .taken) row-of (unread src (r .seen)) (l .lines) x lies)
+
+  -- and from behind its trivia on, which went to the writer before: t₁ and p₁ are where it stood then.
+  module _ (t₁ : List ℕ) (p₁ : Pen) (w : sheet t₁ p₁ ≡ leafs (sheet t (st .run .pen)) (while trivia row-of)) where
+    pub advance-behind : Text row-of → 0 < length (after trivia row-of) → Lined src (after trivia row-of) t₁ p₁ t′ r → (o e : List ℕ)
+        → Advances src (stand t o e st) (stand t′ o e (with-run st r))
+    advance-behind x n l =
+        let before : List Leaf = while trivia row-of in
+        let us : List Leaf = before ++ l .taken in
+        advance-row src t t′ st r us h
+        (sym (while-after trivia row-of) ∙ ap (λ y. before ++ y) (l .lines .joins) ∙ sym (append-assoc before (l .taken) _))
+        (rw (length-append before (l .taken)) (omega (arith, l .some n)))
+        (l .tree ∙ ap (λ s. leafs s (l .taken)) w ∙ sym (leafs-++ _ before (l .taken)))
+        (l .held)
+        (items-behind (length src) relexed recut-relexed _ (l .taken) row-of (unread src (r .seen)) (l .lines) x lies ∙ push-rows before (l .taken) _)
+
+    -- Trivia alone, at the end of the source.
+    pub advance-trivia : 0 < length row-of → after trivia row-of ≡ [] → unread src (r .seen) ≡ [] → Held src (r .seen) → t′ ≡ t₁ → r .pen ≡ p₁ → (o e : List ℕ)
+        → Advances src (stand t o e st) (stand t′ o e (with-run st r))
+    unfolding peek
+    advance-trivia n a v k q i =
+        let before : List Leaf = while trivia row-of in
+        let j : row-of ≡ before ++ [] = sym (while-after trivia row-of) ∙ ap (λ y. before ++ y) a in
+        let l : Lines [] (after trivia row-of) (unread src (r .seen)) = rw (a, v) lines-end in
+        advance-row src t t′ st r before h
+        (rw v j)
+        (omega (arith, ap length (j ∙ append-nil before)))
+        (rw (q, i) w)
+        k
+        (items-behind (length src) relexed recut-relexed _ [] row-of (unread src (r .seen)) l (rw a refl) lies
+        ∙ push-rows before [] _ ∙ ap (λ y. push-row y (items-of src (unread src (r .seen)))) (append-nil before))
