@@ -3,3 +3,4 @@ pub mod Search
 pub mod Grounds
 pub mod Tails
 pub mod Advancing
+pub mod Filing
