@@ -29,7 +29,7 @@ lined-end : (src t : List ℕ) (p : Pen) (i : ℕ) (f : Bool) → length src ≤
 unfolding leafs Held
 lined-end src t p i f h =
     let s : Seen = record { kind = 0; start = i; end = i; angle = f } in
-    record { taken = []; tree = refl; lines = rw (leaves-over src i f h, none-seen src s refl) lines-end; held = λ n. absurd (n refl) }
+    record { taken = []; tree = refl; lines = rw (leaves-over src i f h, none-seen src s refl) lines-end; held = λ n. absurd (n refl); some = rw (leaves-over src i f h) (λ z. z) }
 
 -- A leaf that is seen, and what follows it: b says whether text goes on.
 module _ (src : List ℕ) (x : Seen) (n : x .kind ≡ 0 → ⊥) (k : Held src x) (t t₁ : List ℕ) (p p₁ : Pen)
@@ -43,7 +43,7 @@ module _ (src : List ℕ) (x : Seen) (n : x .kind ≡ 0 → ⊥) (k : Held src x
   pub lined-more : (t′ : List ℕ) (r : Run) → b ≡ true → Lined src behind t₁ p₁ t′ r → Lined src (unread src x) t p t′ r
   unfolding leafs Held
   lined-more t′ r e l =
-      rw (one-seen src x n) (record { taken = first ∷ l .taken; tree = l .tree ∙ rw (w, k n .0) refl; lines = go (newline-leaf first) refl; held = l .held })
+      rw (one-seen src x n) (record { taken = first ∷ l .taken; tree = l .tree ∙ rw (w, k n .0) refl; lines = go (newline-leaf first) refl; held = l .held; some = λ z. omega arith })
     where
       go : (u : Bool) → newline-leaf first ≡ u → Lines (first ∷ l .taken) (first ∷ behind) (unread src (r .seen))
       go true z = lines-newline first behind (l .taken) (unread src (r .seen)) (l .lines) z (g .on e (eqb-true _ _ z) .text (x .angle))
@@ -56,6 +56,7 @@ module _ (src : List ℕ) (x : Seen) (n : x .kind ≡ 0 → ⊥) (k : Held src x
     tree = rw (k n .0) w;
     lines = rw (s .rest) (lines-stop first behind (eq-eqb (x .kind) Kind.NEWLINE (g .off e)));
     held = s .held;
+    some = λ z. omega arith;
   })
 
 -- What leads to the end from where the loop stands leads there from where it began.

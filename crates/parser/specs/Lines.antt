@@ -1,5 +1,6 @@
 -- What is promised of text lines, and of the tokens that are seen at once.
-use Prim.Native.Nat.{ℕ, _≤_}
+use Prim.Native.Nat.{ℕ, _≤_, _<_}
+use lib.ListN.{length}
 use mathlib.Core.Path.{_≡_}
 use mathlib.Core.Bool.{Bool, true, false}
 use mathlib.Core.List.{List}
@@ -54,3 +55,4 @@ pub record Lined (src : List ℕ) (before : List Leaf) (t : List ℕ) (p : Pen) 
   pub tree : sheet t′ (r .pen) ≡ leafs (sheet t p) taken
   pub lines : Lines taken before (unread src (r .seen))
   pub held : Held src (r .seen)
+  pub some : 0 < length before → 0 < length taken

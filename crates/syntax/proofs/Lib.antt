@@ -4,3 +4,7 @@ pub mod Tails
 pub mod Groups
 pub mod Lines
 pub mod Items
+pub mod Grounds
+pub mod LentItem
+pub mod Advancing
+pub mod Filing

@@ -1,3 +1,5 @@
 pub mod Word
 pub mod Line
 pub mod Group
+pub mod Ground
+pub mod Advance

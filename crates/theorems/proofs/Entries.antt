@@ -20,6 +20,14 @@ size-▹ nil g = omega arith
 size-▹ (leaf t f) g = let h = size-▹ f g in omega arith
 size-▹ (node k c f) g = let h = size-▹ f g in omega arith
 
+-- A row of trees has the bytes of its leaves.
+pub size-leaves : (f : Forest) → size f ≡ length (bytes (leaves f))
+unfolding size leaves bytes
+size-leaves nil = refl
+size-leaves (leaf t f) = ap (λ n. long t + n) (size-leaves f) ∙ sym (length-append (t .bytes) (bytes (leaves f)))
+size-leaves (node k c f) =
+    rw (size-leaves c, size-leaves f) (sym (length-append (bytes (leaves c)) (bytes (leaves f)))) ∙ ap length (sym (bytes-append (leaves c) (leaves f)))
+
 pub entries-▹ : (l a : ℕ) (f g : Forest) → entries l a (f ▹ g) ≡ entries l a f ++ entries l (a + size f) g
 unfolding entries size _▹_
 entries-▹ l a nil g = rw (add-zero a) refl

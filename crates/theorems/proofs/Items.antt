@@ -46,12 +46,12 @@ text-fewer t ts = go (trivia t) refl (inline t) refl
     go false e false f = rw (after-stop trivia (t ∷ ts) e, after-stop inline (t ∷ ts) f, bump) (omega arith)
 
 -- Leaves that lie somewhere have bytes.
-some-bytes : (a : ℕ) (u : Leaf) (us ts : List Leaf) → Placed a (u ∷ us ++ ts) → 0 < length (bytes (u ∷ us))
+pub some-bytes : (a : ℕ) (u : Leaf) (us ts : List Leaf) → Placed a (u ∷ us ++ ts) → 0 < length (bytes (u ∷ us))
 unfolding Placed bytes
 some-bytes a u us ts p = omega (arith, p .1, length-append (u .bytes) (bytes us))
 
 -- What follows leaves that lie somewhere lies behind them.
-lies-behind : (a : ℕ) (us ts : List Leaf) → Placed a (us ++ ts) → Placed (a + length (bytes us)) ts
+pub lies-behind : (a : ℕ) (us ts : List Leaf) → Placed a (us ++ ts) → Placed (a + length (bytes us)) ts
 unfolding Placed bytes
 lies-behind a [] ts p = rw (add-zero a) p
 lies-behind a (u ∷ us) ts p =

@@ -1,0 +1,46 @@
+-- What the reading of a source promises: the three demands, said of its answer and of the tables as it left them.
+use Prim.Native.Nat.{ℕ}
+use mathlib.Core.Path.{_≡_}
+use mathlib.Core.List.{List}
+use lib.ListN.{length}
+use Rattle.definition.specs.Calls.{Full, full-reading, entries-of, errors-of, padded, reading-checks, reading}
+use Rattle.definition.specs.Calls as definition
+use Rattle.theorems.specs.Refusals.{Refuses, Zeros}
+use Rattle.theorems.specs.Demand3.{Demand3}
+use Rattle.reading.specs.declared.Reading.{Reading}
+
+-- The answer and the tables, as the definition has them.
+abbrev pub left-by : Reading → List ℕ → List ℕ → List ℕ → definition.Reading
+left-by r entries errors lines = record {
+  refused = r .refusal;
+  entry-count = r .entries;
+  error-count = r .errors;
+  line-count = r .lines;
+  entry-table = entries;
+  error-table = errors;
+  line-table = lines;
+}
+
+-- The full reading: its counts, and in each table its numbers and then zeros.
+pub record Whole (f : Full) (entry-room error-room line-room : ℕ) (r : Reading) (entries errors lines : List ℕ) : Type 0 where
+  pub entry-count : r .entries ≡ length (f .entry-list)
+  pub error-count : r .errors ≡ length (f .error-list)
+  pub line-count : r .lines ≡ length (f .lines)
+  pub entry-table : entries ≡ padded (entries-of f) entry-room
+  pub error-table : errors ≡ padded (errors-of f) error-room
+  pub line-table : lines ≡ padded (f .lines) line-room
+
+-- A reading of src with three tables of these lengths answered r and left these tables.
+pub record Reads-source (src : List ℕ) (entry-room error-room line-room : ℕ) (r : Reading) (entries errors lines : List ℕ) : Type 0 where
+  -- Demand 1: a refusal of 01 is given exactly if its condition holds and no earlier one does;
+  pub refusal : Refuses (r .refusal) (reading-checks src (full-reading src) entry-room error-room line-room)
+  -- it has counts of 0 and puts zeros in every table;
+  pub zero-entries : Zeros (r .refusal) (r .entries) entry-room entries
+  pub zero-errors : Zeros (r .refusal) (r .errors) error-room errors
+  pub zero-lines : Zeros (r .refusal) (r .lines) line-room lines
+  -- else the answer is the full reading.
+  pub whole : r .refusal ≡ 0 → Whole (full-reading src) entry-room error-room line-room r entries errors lines
+  -- Demand 2: number, counts and every number of the tables are those of the definition.
+  pub outcome : left-by r entries errors lines ≡ reading src entry-room error-room line-room
+  -- Demand 3, of an accepted source.
+  pub demand3 : r .refusal ≡ 0 → Demand3 src (left-by r entries errors lines)
