@@ -1,7 +1,7 @@
 -- The directives, made of their parts.
 use Prim.Native.Nat.{ℕ}
-use mathlib.Core.Path.{_≡_, refl, sym, ap, _∙_}
-use mathlib.Core.Bool.{Bool, true, false, _||_, not, false≢true, or-false}
+use mathlib.Core.Path.{_≡_, refl, sym, _∙_}
+use mathlib.Core.Bool.{Bool, true, false, _||_, false≢true, or-false}
 use mathlib.Core.List.{List, [], _∷_}
 use borrow.Author.Tests.{ne-eqb, eqb-true}
 use lib.Dec.{eqb}
@@ -10,7 +10,7 @@ use lib.ListN.{length}
 use Rattle.definition.specs.Text.{if_then_else_, Kind}
 use Rattle.definition.specs.Tree.{Leaf}
 use Rattle.definition.specs.Error.{unexpected}
-use Rattle.definition.specs.Parser.{is, newline-leaf, inline, peek, push, raise, Reader, _then_, wrap, skip-trivia, nothing, bump, maybe, expect-one}
+use Rattle.definition.specs.Parser.{is, newline-leaf, peek, push, raise, Reader, _then_, wrap, skip-trivia, nothing, bump, maybe}
 use Rattle.definition.specs.Syntax.{pp-version, pp-extension, colon}
 use Rattle.theorems.proofs.Combinators.{then-assoc}
 use Rattle.theorems.proofs.Grammar.Clean.{or-left}

@@ -1,15 +1,15 @@
 -- The argument list: the definition's, place by place.
 use Prim.Native.Nat.{ℕ}
 use mathlib.Core.Path.{_≡_, refl, sym, ap, _∙_}
-use mathlib.Core.Bool.{Bool, true, false, _||_, _&&_, not}
+use mathlib.Core.Bool.{Bool, true, false, _&&_, not}
 use mathlib.Core.List.{List, [], _∷_}
 use borrow.Author.Tests.{eqb-true, eqb-false}
 use lib.Dec.{eqb}
 use lib.ListN.{length}
 use native.Mathlib.Omega.{arith}
-use Rattle.definition.specs.Text.{if_then_else_, Kind}
-use Rattle.definition.specs.Tree.{Leaf, nil, leaf, node, _▹_}
-use Rattle.definition.specs.Parser.{is, trivia, newline-leaf, peek, Reader, _then_, wrap, nothing, bump, maybe}
+use Rattle.definition.specs.Text.{Kind}
+use Rattle.definition.specs.Tree.{Leaf, _▹_}
+use Rattle.definition.specs.Parser.{is, trivia, newline-leaf, peek, _then_, wrap, nothing, bump, maybe}
 use Rattle.definition.specs.Syntax.{wanted, args}
 use Rattle.theorems.specs.BodyRows.{ends}
 use Rattle.theorems.proofs.Grammar.Clean.{or-left, or-right}

@@ -11,7 +11,7 @@ use Rattle.theorems.specs.Height.{crowded}
 use Rattle.theorems.proofs.Grammar.Clean.{or-left}
 use Rattle.theorems.proofs.Heights.Laws.{crowded-▹, crowded-node, crowded-row}
 use Rattle.theorems.proofs.Tiling.Leaves.{leaves-row}
-use Rattle.tree.specs.Machine.{Event, Open, Shut, writer, sheet, with-levels, events, step, run, leafs}
+use Rattle.tree.specs.Machine.{Event, Open, Shut, writer, sheet, with-levels, events, step, run}
 use Rattle.tree.specs.declared.Pen.{Pen}
 use Rattle.tree.proofs.Runs.{run-▹, run-node, run-row}
 use Rattle.error.specs.Log.{log, add, adds, fault-of}

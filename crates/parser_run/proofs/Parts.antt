@@ -8,14 +8,13 @@ use lib.Dec.{eqb}
 use lib.ListN.{length, getD}
 use Rattle.definition.specs.Text.{if_then_else_, Kind}
 use Rattle.definition.specs.Tree.{Leaf, body-kind}
-use Rattle.definition.specs.Error.{Err}
 use Rattle.definition.specs.Parser.{is, inline, peek, raise, Reader, wrap, nothing, bump, maybe, expect-one}
 use Rattle.theorems.specs.BodyRows.{ends}
 use Rattle.tree.specs.Machine.{Event, Open, Shut}
 use Rattle.error.specs.Log.{fault-of}
 use Rattle.error.specs.declared.Fault.{Fault}
 use Rattle.parser.specs.declared.Seen.{Seen}
-use Rattle.parser.specs.Rest.{unread, Held, inlined, Reading}
+use Rattle.parser.specs.Rest.{unread, Held, Reading}
 use Rattle.parser.proofs.Taking.{none-seen, one-seen, Tested, inline-tested, peeked}
 use Rattle.parser_run.specs.declared.ParserRun.{ParserRun}
 use Rattle.parser_run.specs.Reads.{Stand, stand, Reads, Quiet, Took, Moves, Logs}

@@ -1,5 +1,5 @@
 -- Readers one after the other, in either order and behind trivia.
-use mathlib.Core.Path.{_≡_, refl, ap, sym, _∙_}
+use mathlib.Core.Path.{_≡_, refl, ap}
 use mathlib.Core.Bool.{Bool, true, false}
 use mathlib.Core.List.{List, [], _∷_, append-assoc}
 use Prim.Native.Nat.{ℕ}
