@@ -9,7 +9,7 @@ use Rattle.definition.specs.Newline.{char-more, chars}
 use Rattle.definition.specs.Unescaped.{unescaped-chars, unescaped}
 use Rattle.definition.specs.Tree.{Leaf}
 use Rattle.definition.specs.Parser.{is, peek}
-use Rattle.definition.specs.Grammar.{one, Many, no-more, one-more, _⨟_, _⨾_, empty, without, with-it, Eol, at-newline, at-end, t*, word-leaf, Closes, closed, inner, opened, passed, Params, ended, space, name, comma, Args, object, function, Rest, any, ident, none-at-all, version, extension, define, rest-of, words, rest-after, no-word, a-word, Sort, blank, text, group, directive, Item, Keeps}
+use Rattle.definition.specs.Grammar.{one, Many, no-more, one-more, _⨟_, _⨾_, empty, without, with-it, Eol, at-newline, at-end, t*, word-leaf, Closes, closed, inner, opened, passed, Params, ended, space, name, comma, Args, object, function, Rest, any, ident, none-at-all, version, extension, define, rest-of, words, rest-after, no-word, a-word, Sort, blank, text, group, directive, Item, Division, Keeps}
 
 -- Leaves by their kind, and words.
 abbrev bare : ℕ → Leaf
@@ -18,7 +18,8 @@ bare k = record { kind = k; start = 0; bytes = [] }
 abbrev word : String → Leaf
 word s = record { kind = K.IDENT_KW; start = 0; bytes = ascii s }
 
-abbrev T : Leaf  -- Trivia.
+-- Trivia, NEWLINE, HASH, and an identifier that is no word.
+abbrev T : Leaf
 T = bare K.WS
 
 abbrev N : Leaf
@@ -42,7 +43,7 @@ worded : (r : Rest) {t h : Leaf} {L R S : List Leaf} → is K.HASH h ≡ true �
     → rest-of r L R → (t* ⨟ Eol) R S → Keeps S → Keeps (h ∷ t ∷ L)
 worded r h w e x (s ⨾ n) k = item-first directive (no-more ⨾ one h ⨾ no-more ⨾ a-word w e x ⨾ s ⨾ n) k
 
--- A row that keeps it: blank, text, group, the six rests, no word, and the end in place of NEWLINE.
+-- A row that keeps it: blank, text, group, the six rests, no word, and the end in place of NEWLINE; and trivia at the end.
 kept : Keeps (
     T ∷ N ∷
     T ∷ I ∷ H ∷ N ∷
@@ -69,11 +70,23 @@ kept =
     (worded version refl refl refl (no-more ⨾ one refl ⨾ with-it (just refl ⨾ one refl)) (no-more ⨾ at-newline refl)
     (worded extension refl refl refl (just refl ⨾ one refl ⨾ just refl ⨾ one refl ⨾ just refl ⨾ one refl) (no-more ⨾ at-newline refl)
     (worded define refl refl refl (just refl ⨾ one refl ⨾ object refl ⨾ one-more refl (just refl)) (no-more ⨾ at-newline refl)
-    (worded define refl refl refl (no-more ⨾ one refl ⨾ function refl (space refl (name refl (comma refl (name refl (comma refl (ended refl)))))) ⨾ just refl) (no-more ⨾ at-newline refl)
+    (worded define refl refl refl (no-more ⨾ one refl ⨾ function refl (space refl (name refl (comma refl (name refl (comma refl (ended refl)))))) ⨾ just refl)
+    (no-more ⨾ at-newline refl)
     (item-first directive (just refl ⨾ one refl ⨾ just refl ⨾ no-word ⨾ no-more ⨾ at-newline refl)
     (worded none-at-all refl refl refl empty (no-more ⨾ at-end) ([], no-more)))))))))))))
 
--- What breaks it: a text line that begins with HASH,
+kept-trivia : Keeps (T ∷ [])
+kept-trivia = ([], just refl)
+
+-- What breaks it: something else than trivia behind the items,
+no-tail : Division [] (I ∷ []) → ⊥
+no-tail (one-more e x) = false≢true e
+
+-- a line that goes on,
+no-end : {R : List Leaf} → Eol (I ∷ []) R → ⊥
+no-end (at-newline e) = false≢true e
+
+-- a text line that begins with HASH,
 no-text : {R : List Leaf} → Item text (H ∷ N ∷ []) R → ⊥
 no-text (no-more ⨾ (one e ⨾ x)) = false≢true e
 no-text (one-more e t ⨾ x) = false≢true e

@@ -63,13 +63,14 @@ one-over : too-many (3 ∷ 257 ∷ []) ≡ true
 unfolding too-many
 one-over = refl
 
--- UTF-8: the first and the last character of each form of RFC 3629.
+-- UTF-8: the first and the last character of each form of RFC 3629, and one between.
 abbrev borders : List (List ℕ)
 borders =
     (0x00 ∷ []) ∷ (0x7F ∷ []) ∷ (0xC2 ∷ 0x80 ∷ []) ∷ (0xDF ∷ 0xBF ∷ []) ∷ (0xE0 ∷ 0xA0 ∷ 0x80 ∷ []) ∷ (0xE0 ∷ 0xBF ∷ 0xBF ∷ []) ∷
-    (0xE1 ∷ 0x80 ∷ 0x80 ∷ []) ∷ (0xEC ∷ 0xBF ∷ 0xBF ∷ []) ∷ (0xED ∷ 0x80 ∷ 0x80 ∷ []) ∷ (0xED ∷ 0x9F ∷ 0xBF ∷ []) ∷ (0xEE ∷ 0x80 ∷ 0x80 ∷ []) ∷
-    (0xEF ∷ 0xBF ∷ 0xBF ∷ []) ∷ (0xF0 ∷ 0x90 ∷ 0x80 ∷ 0x80 ∷ []) ∷ (0xF0 ∷ 0xBF ∷ 0xBF ∷ 0xBF ∷ []) ∷ (0xF1 ∷ 0x80 ∷ 0x80 ∷ 0x80 ∷ []) ∷
-    (0xF3 ∷ 0xBF ∷ 0xBF ∷ 0xBF ∷ []) ∷ (0xF4 ∷ 0x80 ∷ 0x80 ∷ 0x80 ∷ []) ∷ (0xF4 ∷ 0x8F ∷ 0xBF ∷ 0xBF ∷ []) ∷ []
+    (0xE1 ∷ 0x80 ∷ 0x80 ∷ []) ∷ (0xEC ∷ 0xBF ∷ 0xBF ∷ []) ∷ (0xED ∷ 0x80 ∷ 0x80 ∷ []) ∷ (0xED ∷ 0x9F ∷ 0xBF ∷ []) ∷
+    (0xEE ∷ 0x80 ∷ 0x80 ∷ []) ∷ (0xEE ∷ 0xBF ∷ 0xBF ∷ []) ∷ (0xEF ∷ 0xBF ∷ 0xBF ∷ []) ∷ (0xF0 ∷ 0x90 ∷ 0x80 ∷ 0x80 ∷ []) ∷
+    (0xF0 ∷ 0xBF ∷ 0xBF ∷ 0xBF ∷ []) ∷ (0xF1 ∷ 0x80 ∷ 0x80 ∷ 0x80 ∷ []) ∷ (0xF3 ∷ 0xBF ∷ 0xBF ∷ 0xBF ∷ []) ∷
+    (0xF4 ∷ 0x80 ∷ 0x80 ∷ 0x80 ∷ []) ∷ (0xF4 ∷ 0x8F ∷ 0xBF ∷ 0xBF ∷ []) ∷ []
 
 -- One byte of a row put in another's place; the row cut off; and that at each later byte of rows.
 unfoldable spoilt : ℕ → List ℕ → List (List ℕ)
@@ -94,12 +95,21 @@ unfolding utf8 left follow char-forms whole
 characters = refl
 
 -- A later byte that is none, and a character cut off.
+<<<<<<< HEAD
 spoilt-ones : map (left []) (later (spoilt 0x7F) borders ++ later (spoilt 0xC0) borders) ≡ replicate 72 broken
 unfolding left follow char-forms later spoilt
 spoilt-ones = refl
 
 cut-ones : map (left []) (later cuts borders) ≡ replicate 36 cut
 unfolding left follow char-forms later cuts
+=======
+spoilt-ones : map (left []) (later (spoilt 0x7F) borders ++ later (spoilt 0xC0) borders) ≡ replicate 76 broken
+unfolding left follow forms later spoilt
+spoilt-ones = refl
+
+cut-ones : map (left []) (later cuts borders) ≡ replicate 38 cut
+unfolding left follow forms later cuts
+>>>>>>> h4
 cut-ones = refl
 
 -- Bytes that begin no character, overlong forms, surrogates, and what lies above the last character.

@@ -266,9 +266,10 @@ unknowns =
     reads "#1\n" (answer 0 6 1 2 ++ node K.ROOT 0 0 3 ++ node K.ERROR 1 0 3 ++ leaf K.HASH 2 0 1 ++ node K.ERROR 2 1 2
     ++ leaf K.DIGITS 3 1 2 ++ leaf K.NEWLINE 2 2 3 ++ error 1 1 2 0 1 0 0 0 1 2 ++ line 0 ++ line 3) ∷
     reads "##a" (answer 0 3 0 1 ++ node K.ROOT 0 0 3 ++ leaf K.PP_CONCAT_OP 1 0 2 ++ leaf K.IDENT_KW 1 2 3 ++ line 0) ∷
-    reads "#(((a))())b\n" (answer 0 13 0 2 ++ node K.ROOT 0 0 12 ++ leaf K.HASH 1 0 1 ++ leaf K.LPAREN 1 1 2 ++ leaf K.LPAREN 1 2 3
+    reads "#(((a))())#else\n" (answer 0 15 0 2 ++ node K.ROOT 0 0 16 ++ leaf K.HASH 1 0 1 ++ leaf K.LPAREN 1 1 2 ++ leaf K.LPAREN 1 2 3
     ++ leaf K.LPAREN 1 3 4 ++ leaf K.IDENT_KW 1 4 5 ++ leaf K.RPAREN 1 5 6 ++ leaf K.RPAREN 1 6 7 ++ leaf K.LPAREN 1 7 8
-    ++ leaf K.RPAREN 1 8 9 ++ leaf K.RPAREN 1 9 10 ++ leaf K.IDENT_KW 1 10 11 ++ leaf K.NEWLINE 1 11 12 ++ line 0 ++ line 12) ∷
+    ++ leaf K.RPAREN 1 8 9 ++ leaf K.RPAREN 1 9 10 ++ node K.PP_ELSE 1 10 16 ++ leaf K.HASH 2 10 11 ++ leaf K.IDENT_KW 2 11 15
+    ++ leaf K.NEWLINE 2 15 16 ++ line 0 ++ line 16) ∷
     reads "#((a)" (answer 0 7 1 1 ++ node K.ROOT 0 0 5 ++ node K.ERROR 1 0 5 ++ leaf K.HASH 2 0 1 ++ leaf K.LPAREN 2 1 2
     ++ leaf K.LPAREN 2 2 3 ++ leaf K.IDENT_KW 2 3 4 ++ leaf K.RPAREN 2 4 5 ++ error 5 1 2 0 1 0 K.RPAREN 0 0 0 ++ line 0) ∷ []
 
