@@ -95,21 +95,12 @@ unfolding utf8 left follow char-forms whole
 characters = refl
 
 -- A later byte that is none, and a character cut off.
-<<<<<<< HEAD
-spoilt-ones : map (left []) (later (spoilt 0x7F) borders ++ later (spoilt 0xC0) borders) ≡ replicate 72 broken
+spoilt-ones : map (left []) (later (spoilt 0x7F) borders ++ later (spoilt 0xC0) borders) ≡ replicate 76 broken
 unfolding left follow char-forms later spoilt
 spoilt-ones = refl
 
-cut-ones : map (left []) (later cuts borders) ≡ replicate 36 cut
-unfolding left follow char-forms later cuts
-=======
-spoilt-ones : map (left []) (later (spoilt 0x7F) borders ++ later (spoilt 0xC0) borders) ≡ replicate 76 broken
-unfolding left follow forms later spoilt
-spoilt-ones = refl
-
 cut-ones : map (left []) (later cuts borders) ≡ replicate 38 cut
-unfolding left follow forms later cuts
->>>>>>> h4
+unfolding left follow char-forms later cuts
 cut-ones = refl
 
 -- Bytes that begin no character, overlong forms, surrogates, and what lies above the last character.
