@@ -10,7 +10,7 @@ use Rattle.definition.specs.LineMap.{newline-ends, line-starts, last-lin
 use Rattle.definition.specs.Unescaped.{unescaped-chars, unescaped}
 use Rattle.definition.specs.Pre.{kind-of, find, begin, flag, more, pre-begin, pre-more, pres}
 use Rattle.definition.specs.Glue.{glued, flat, pre-kind, tokens, token-numbers, pasted-kind}
-use Rattle.definition.specs.Tree.{Width, placed, bytes, _▹_, leaves, row, size, entries, entry-numbers, concat-ops, body-concats}
+use Rattle.definition.specs.Tree.{placed, bytes, _▹_, leaves, row, size, entries, entry-numbers, concat-ops, body-concats}
 use Rattle.definition.specs.Error.{error-numbers}
 use Rattle.definition.specs.Parser.{while, after, peek, _then_, wrap, skip, skip-trivia, nothing, bump, maybe, expect-one}
 use Rattle.definition.specs.Syntax.{nest, wrapped, pasted, pp-tokens-from, pp-tokens, all-trivia, trimmed, trailing, body, pp-body, args, define-args, pp-define, pp-if-ident, pp-version, colon, pp-extension, last-stop, extra, finish, directive-named, directive, unknown, depth, pp-rs-ident, pp-include, directives, control-line, hash-item, item, file, relexed, parse, parse-define-body}

@@ -5,7 +5,7 @@ use Rattle.definition.specs.SyntaxKind.{Kind as K}
 use Rattle.definition.specs.Utf8.{char-forms, follow, left, cut, broken, utf8}
 use Rattle.definition.specs.Newline.{LETTER, DIGIT, NEWLINE, WS, PUNCT, class}
 use Rattle.definition.specs.Glue.{Glue, gl, glued, pasted-kind}
-use Rattle.definition.specs.Calls.{refusal, too-many, outcome, Reading, reading, Filled, reading-body, listing-tokens, building-lines, unescaping, Pasted, pasting}
+use Rattle.definition.specs.Calls.{refusal, too-many, outcome, reading, reading-body, listing-tokens, building-lines, unescaping, pasting}
 
 -- The numbers from n on, so many.
 unfoldable from : ℕ → ℕ → List ℕ

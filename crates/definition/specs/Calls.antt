@@ -1,8 +1,8 @@
 -- The seven calls (01, "The call" and "Refused, in checking order"): each outcome, on whatever it is handed.
-use Rattle.definition.specs.Text.{ℕ, _-_, Bool, true, false, not, _||_, List, [], _∷_, _++_, eqb, ltb, length, replicate, if_then_else_, Kind}
+use Rattle.definition.specs.Text.{ℕ, _-_, Bool, false, not, _||_, List, [], _∷_, _++_, eqb, ltb, length, replicate, if_then_else_, Kind}
 use Rattle.definition.specs.Utf8.{utf8}
 use Rattle.definition.specs.Unescaped.{unescaped}
-use Rattle.definition.specs.LineMap.{line-starts, LineCol, get-line-and-col, line-table}
+use Rattle.definition.specs.LineMap.{line-starts, get-line-and-col, line-table}
 use Rattle.definition.specs.Glue.{tokens, token-numbers, pasted-kind}
 use Rattle.definition.specs.Tree.{Entry, entries, entry-numbers, body-concats}
 use Rattle.definition.specs.Error.{Err, error-numbers}

@@ -1,5 +1,5 @@
 -- The line table, and looking an offset up in one (01, "The call").
-use Rattle.definition.specs.Text.{ℕ, zero, suc, _+_, _-_, Bool, true, false, _&&_, List, [], _∷_, eqb, leb, ltb, length, if_then_else_}
+use Rattle.definition.specs.Text.{ℕ, suc, _+_, _-_, Bool, true, false, _&&_, List, [], _∷_, eqb, leb, ltb, length, if_then_else_}
 use Rattle.definition.specs.Runs.{Run, text}
 use Rattle.definition.specs.Newline.{chars, newline}
 

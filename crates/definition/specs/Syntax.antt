@@ -1,5 +1,5 @@
 -- The directive reader, with the Rust's recovery (01, "Directives"; GLSL 3.3). n: where the source ends.
-use Rattle.definition.specs.Text.{ℕ, zero, suc, Bool, true, false, _&&_, not, List, [], _∷_, Option, none, some, eqb, length, if_then_else_, ascii, same, Kind}
+use Rattle.definition.specs.Text.{ℕ, zero, suc, Bool, true, false, _&&_, not, List, [], _∷_, Option, none, some, length, if_then_else_, ascii, same, Kind}
 use Rattle.definition.specs.Unescaped.{unescaped}
 use Rattle.definition.specs.Glue.{tokens}
 use Rattle.definition.specs.Tree.{Leaf, placed, bytes, stop, Forest, nil, leaf, node, row, _▹_}

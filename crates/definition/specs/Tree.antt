@@ -1,5 +1,5 @@
 -- The tree: leaves, rows of trees, and their entries (01, "The call").
-use Rattle.definition.specs.Text.{ℕ, suc, _+_, Bool, true, false, _||_, List, [], _∷_, _++_, eqb, length, if_then_else_, Kind}
+use Rattle.definition.specs.Text.{ℕ, _+_, Bool, true, false, _||_, List, [], _∷_, _++_, eqb, length, if_then_else_, Kind}
 use Rattle.definition.specs.Runs.{text}
 use Rattle.definition.specs.Glue.{Token}
 

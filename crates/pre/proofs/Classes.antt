@@ -8,7 +8,7 @@ use lib.Dec.{eqb, leb, ltb}
 use borrow.Author.Tests.{ne-eqb, eqb-true, eqb-false, lt-leb, leb-true, ltb-true, not-true}
 use Rattle.definition.specs.Text.{List, [], _∷_, among, one-of, byte}
 use Rattle.definition.specs.SyntaxKind.{Kind}
-use Rattle.definition.specs.Newline.{LF, CR, CRLF, char-more, letter, digit, newlines, newline, blanks, blank, class}
+use Rattle.definition.specs.Newline.{LF, CR, char-more, letter, digit, newlines, newline, blanks, blank, class}
 use Rattle.definition.specs.Pre.{puncts}
 use Rattle.theorems.proofs.Lexing.Sorts.{find-low}
 use Rattle.pre.specs.Table.{ClassNumber, punct, class-number, class-number-of}

@@ -8,7 +8,7 @@ use lib.Dec.{eqb}
 use borrow.Author.Tests.{ne-eqb, eqb-true, not-true}
 use Rattle.definition.specs.Text.{List, one-of, byte}
 use Rattle.definition.specs.SyntaxKind.{Kind}
-use Rattle.definition.specs.Newline.{LF, CR, CRLF, letter, digit, newlines, newline, blanks, blank}
+use Rattle.definition.specs.Newline.{letter, digit, newlines, newline, blanks, blank}
 use Rattle.definition.specs.Pre.{done, slash, ident, single-comment, whitespace, backslash, digits, alone, in-digits, begin, flag, more}
 use Rattle.pre.specs.Table.{ClassNumber, punct, class-number}
 use Rattle.pre.specs.Scan.{takes-point}

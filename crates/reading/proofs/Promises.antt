@@ -1,13 +1,11 @@
 -- The outcome of a reading: all its promises follow from one equation, and the equation from what was written and where.
 use Prim.Native.Nat.{ℕ, _≤_, _<_}
-use mathlib.Core.Path.{_≡_, refl, ap, sym, _∙_, subst}
-use mathlib.Core.Bool.{Bool, true, false}
+use mathlib.Core.Path.{_≡_, refl, ap, sym, _∙_}
+use mathlib.Core.Bool.{true, false}
 use mathlib.Core.List.{List, [], _∷_}
-use lib.Dec.{eqb, ltb}
 use lib.ListN.{length}
-use borrow.Author.Tests.{lt-ltb, le-ltb, ne-eqb, eq-eqb}
-use Rattle.definition.specs.Text.{if_then_else_}
-use Rattle.definition.specs.Calls.{Check, Refusal, Full, full-reading, entries-of, errors-of, counted, padded, filled, refusal, too-many, too-many-concats, short-table, source-checks, reading-checks, outcome, reading}
+use borrow.Author.Tests.{lt-ltb, le-ltb, ne-eqb}
+use Rattle.definition.specs.Calls.{Check, Refusal, Full, full-reading, entries-of, errors-of, filled, refusal, too-many, too-many-concats, short-table, source-checks, reading-checks, outcome, reading}
 use Rattle.theorems.proofs.Refusals.{reading-refuses, reading-zero-entries, reading-zero-errors, reading-zero-lines}
 use Rattle.theorems.proofs.Demand3.{demand3}
 use Rattle.text.proofs.Tables.{zeros}

@@ -1,13 +1,13 @@
 -- Item after item: one that is read by `item`, and text lines.
-use Prim.Native.Nat.{ℕ, suc, _+_, _<_, _≤_}
-use mathlib.Core.Path.{_≡_, refl, ap, sym, _∙_, subst}
+use Prim.Native.Nat.{ℕ, _+_, _<_}
+use mathlib.Core.Path.{_≡_, refl, ap, sym, _∙_}
 use mathlib.Core.Bool.{Bool, true, false}
 use mathlib.Core.List.{List, [], _∷_, _++_, append-assoc, append-nil}
 use native.Mathlib.Omega.{arith}
 use lib.Dec.{eqb}
 use lib.ListN.{length, length-append}
 use borrow.Author.Tests.{eqb-true, eqb-false}
-use Rattle.definition.specs.Tree.{Leaf, long, stop, row, _▹_, bytes, leaves}
+use Rattle.definition.specs.Tree.{Leaf, stop, row, _▹_, bytes}
 use Rattle.definition.specs.Parser.{trivia, while, after, peek, Got, push, Reader, _then_}
 use Rattle.definition.specs.Syntax.{item, relexed}
 use Rattle.theorems.specs.Placed.{Placed}
@@ -25,12 +25,12 @@ use Rattle.tree.specs.declared.Pen.{Pen}
 use Rattle.parser.specs.declared.Seen.{Seen}
 use Rattle.parser.specs.declared.Run.{Run}
 use Rattle.parser.specs.Lines.{Lined}
-use Rattle.parser.specs.Rest.{leaf-seen, unread, Held}
+use Rattle.parser.specs.Rest.{unread, Held}
 use Rattle.parser.proofs.Taking.{none-seen, one-seen}
 use Rattle.parser_run.specs.declared.ParserRun.{ParserRun}
-use Rattle.parser_run.specs.Reads.{Stand, stand, with-run, unread-at, Reads, Took}
-use Rattle.parser_run.proofs.Laws.{Rowed, took, Toward, toward-then}
-use Rattle.syntax.specs.Advance.{Fitting, items-of, Advances}
+use Rattle.parser_run.specs.Reads.{Stand, stand, with-run, unread-at, Reads}
+use Rattle.parser_run.proofs.Laws.{Rowed, took}
+use Rattle.syntax.specs.Advance.{items-of, Advances}
 
 -- What is seen lies where it starts.
 pub seen-lies : (src : List ℕ) (s : Seen) → Held src s → Placed (s .start) (unread src s)

@@ -1,6 +1,6 @@
 -- The loop over items: what leads to the end from where it stands leads there from where it began.
 use Prim.Native.Nat.{ℕ, _<_}
-use mathlib.Core.Path.{_≡_, refl, ap, sym, _∙_}
+use mathlib.Core.Path.{_≡_, ap, sym, _∙_}
 use mathlib.Core.List.{List, []}
 use lib.ListN.{length}
 use Rattle.definition.specs.Tree.{bytes}

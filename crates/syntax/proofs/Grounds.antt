@@ -1,22 +1,20 @@
 -- From item to item the writer stands on the ground.
 use Prim.Native.Nat.{ℕ, _+_}
-use mathlib.Core.Path.{_≡_, refl, ap, sym, _∙_, subst}
-use mathlib.Core.Bool.{Bool, false, _||_}
+use mathlib.Core.Path.{_≡_, sym, _∙_}
+use mathlib.Core.Bool.{false}
 use mathlib.Core.List.{List, [], _∷_, _++_}
 use native.Mathlib.Omega.{arith}
-use lib.ListN.{length}
-use Rattle.definition.specs.Tree.{Leaf, long, leaves, size}
-use Rattle.definition.specs.Parser.{Got, Reader}
+use Rattle.definition.specs.Tree.{Leaf, long, leaves}
+use Rattle.definition.specs.Parser.{Got}
 use Rattle.theorems.specs.Placed.{Placed}
 use Rattle.theorems.specs.Height.{crowded}
 use Rattle.theorems.proofs.Grammar.Clean.{or-left, or-right}
-use Rattle.theorems.proofs.Tiling.Tiles.{Recut}
 use Rattle.theorems.proofs.Entries.{size-leaves}
 use Rattle.theorems.proofs.Items.{lies-behind}
-use Rattle.tree.specs.Machine.{writer, events, run}
-use Rattle.tree.specs.Writes.{Standing, Ready, Wrote}
+use Rattle.tree.specs.Machine.{run}
+use Rattle.tree.specs.Writes.{Ready, Wrote}
 use Rattle.tree.proofs.Writes.{writes}
-use Rattle.parser_run.specs.Reads.{Stand, writer-at, unread-at, Gives, Reads}
+use Rattle.parser_run.specs.Reads.{Stand, writer-at, unread-at, Gives}
 use Rattle.syntax.specs.Ground.{Grounded}
 use Rattle.syntax.specs.Advance.{Fitting}
 

@@ -1,16 +1,15 @@
 -- Eight bytes of ASCII at once.
-use Prim.Native.Nat.{ℕ, zero, suc, _+_, _-_, _/_, _≤_, _<_}
+use Prim.Native.Nat.{ℕ, zero, suc, _+_, _-_, _≤_, _<_}
 use native.Mathlib.Omega.{arith}
-use native.Mathlib.Nat.{add-assoc, add-zero}
-use native.Mathlib.Numerals.{add-one}
+use native.Mathlib.Nat.{add-zero}
 use mathlib.Core.Path.{_≡_, refl, sym, ap, _∙_}
 use mathlib.Core.Bool.{Bool, true, false, _&&_, false≢true, and-eq-true-iff}
 use mathlib.Core.List.{List, []}
 use borrow.Author.Tests.{leb-true, le-leb, lt-leb, ltb-true, lt-ltb, eqb-true, eqb-false, eq-eqb, ne-eqb}
 use lib.Dec.{eqb, leb, ltb}
 use lib.ListN.{length, drop, getD}
-use Rattle.definition.specs.Text.{if_then_else_, some}
-use Rattle.definition.specs.Utf8.{char-forms, follow, left}
+use Rattle.definition.specs.Text.{some}
+use Rattle.definition.specs.Utf8.{char-forms, left}
 use Rattle.text.specs.Utf8.{High, low-from, eight-low, starts, passes, wants, wanted-after}
 use Rattle.text.specs.declared.utf8.State.{State}
 use Rattle.text.specs.declared.utf8.State.the-variants.{Start, Tail1, Tail2, Tail3, AfterE0, AfterED, AfterF0, AfterF4}

@@ -1,17 +1,17 @@
 -- With tables of the needed length and the other conditions met, no call refuses.
 use Prim.Native.Nat.{ℕ, _*_, _≤_}
-use mathlib.Core.Path.{_≡_, refl, ap, sym, _∙_, subst}
+use mathlib.Core.Path.{_≡_, refl, ap, sym, subst}
 use mathlib.Core.Bool.{Bool, true, false, not}
-use mathlib.Core.List.{List, [], _∷_, _++_}
+use mathlib.Core.List.{List, _++_}
 use borrow.Author.Tests.{le-ltb}
 use lib.ListN.{length}
 use Rattle.definition.specs.Utf8.{utf8}
-use Rattle.definition.specs.LineMap.{line-starts, line-table}
+use Rattle.definition.specs.LineMap.{line-starts}
 use Rattle.definition.specs.Unescaped.{unescaped}
 use Rattle.definition.specs.Glue.{tokens}
 use Rattle.definition.specs.Tree.{Width, entries, body-concats}
 use Rattle.definition.specs.Syntax.{parse-define-body}
-use Rattle.definition.specs.Calls.{Check, longest-source, source-checks, Full, full-reading, too-many, reading, reading-body, listing-tokens, building-lines, unescaping, looking-up, pasting, no-kind}
+use Rattle.definition.specs.Calls.{Check, longest-source, source-checks, full-reading, reading, reading-body, listing-tokens, building-lines, unescaping, looking-up, pasting, no-kind}
 use Rattle.theorems.specs.Refusals.{Pass, Refuses, Some-over, Line-table}
 use Rattle.theorems.proofs.Refusals.{reading-refuses, body-refuses, tokens-refuses, lines-refuses, unescape-refuses, lookup-refuses, paste-refuses, length-entries, length-errors, length-tokens, too-many-when, line-table-when, source-passes, pass-then}
 

@@ -1,23 +1,19 @@
 -- Demand 3 of every accepted source, whatever the three table lengths.
-use Prim.Native.Nat.{ℕ, zero, suc, _+_, _-_, _≤_}
+use Prim.Native.Nat.{ℕ, _+_, _-_, _≤_}
 use mathlib.Core.Path.{_≡_, refl, ap, sym, _∙_, subst}
-use mathlib.Core.Bool.{true, false}
-use mathlib.Core.List.{List, [], _∷_, _++_, map, append-nil, cons-ne-nil}
+use mathlib.Core.List.{List, [], _∷_, map, append-nil}
 use mathlib.Core.Logic.{_↔_}
 use native.Mathlib.Omega.{arith}
 use native.Mathlib.Nat.{zero-add}
 use lib.ListN.{length, replicate, length-map}
-use Rattle.definition.specs.Tree.{Leaf, bytes, Forest, leaves, size, Entry, entries, entry-numbers}
-use Rattle.definition.specs.Error.{Err}
-use Rattle.definition.specs.Parser.{Got}
-use Rattle.definition.specs.Syntax.{file, parse}
-use Rattle.definition.specs.Grammar.{Cut, Division, Keeps}
-use Rattle.definition.specs.Calls.{Full, Reading, full-reading, entries-of, outcome, reading, padded, filled}
-use Rattle.theorems.specs.Placed.{Placed}
-use Rattle.theorems.specs.Demand3.{Demand3, entries-in, leaf-entries, leaf-of, counted-leaves, leaves-read, Follow}
+use Rattle.definition.specs.Tree.{Leaf, bytes, Forest, leaves, size, entries, entry-numbers}
+use Rattle.definition.specs.Syntax.{parse}
+use Rattle.definition.specs.Grammar.{Keeps}
+use Rattle.definition.specs.Calls.{Reading, full-reading, outcome, reading, padded, filled}
+use Rattle.theorems.specs.Demand3.{Demand3, leaf-entries, leaf-of, counted-leaves, leaves-read}
 use Rattle.theorems.proofs.Replay.Whole.{tiled, placed-leaves, few-leaves, replayed}
 use Rattle.theorems.proofs.Grammar.Items.{sound, complete, unique}
-use Rattle.theorems.proofs.Entries.{entries-back, Chain, chained, chain-first, chain-follow, chain-last, length-bytes, Begins, leaves-back}
+use Rattle.theorems.proofs.Entries.{entries-back, Chain, chained, chain-first, chain-follow, chain-last, length-bytes, leaves-back}
 
 -- An accepted reading leaves the full reading.
 pub accepted : (src : List ℕ) (a b c : ℕ) → reading src a b c .refused ≡ 0 → reading src a b c ≡ outcome 0 (full-reading src) a b c

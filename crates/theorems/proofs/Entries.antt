@@ -1,11 +1,11 @@
 -- The entries of a row of trees: appending, wrapping, and the leaves among them.
-use Prim.Native.Nat.{ℕ, zero, suc, _+_, _<_}
+use Prim.Native.Nat.{ℕ, zero, suc, _+_}
 use mathlib.Core.Path.{_≡_, refl, ap, ap₂, sym, _∙_, subst}
 use mathlib.Core.Bool.{Bool, true, false}
 use mathlib.Core.List.{List, [], _∷_, _++_, map, append-assoc, map-append}
 use native.Mathlib.Nat.{add-assoc, add-zero, zero-add, suc-add}
 use native.Mathlib.Omega.{arith}
-use lib.ListN.{length, take, drop, getD, length-append}
+use lib.ListN.{length, take, drop, length-append}
 use lib.Seq.{slice, take-nil, drop-drop, take-append-seam, drop-append-seam}
 use lib.Dec.{eqb}
 use Rattle.definition.specs.Tree.{Leaf, long, bytes, Forest, nil, leaf, node, _▹_, leaves, size, Entry, Form, leaf-entry, node-entry, entries, entry-numbers}

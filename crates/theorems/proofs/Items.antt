@@ -7,7 +7,7 @@ use native.Mathlib.Nat.{add-zero, add-assoc}
 use native.Mathlib.Omega.{arith}
 use lib.ListN.{length, length-append}
 use Rattle.definition.specs.SyntaxKind.{Kind}
-use Rattle.definition.specs.Tree.{Leaf, long, Forest, leaf, row, _▹_, bytes, leaves}
+use Rattle.definition.specs.Tree.{Leaf, long, Forest, _▹_, bytes, leaves}
 use Rattle.definition.specs.Parser.{is, trivia, inline, while, after, peek, Got, Reader, _then_, wrap, skip, skip-trivia, nothing, bump}
 use Rattle.definition.specs.Syntax.{Line, control-line, hash-item, item, file, relexed, parse}
 use Rattle.theorems.specs.Placed.{Placed}
@@ -15,12 +15,12 @@ use Rattle.theorems.specs.LeavesFrom.{leaves-from}
 use Rattle.theorems.specs.Items.{items}
 use Rattle.theorems.specs.TextLines.{Text, push-row, Lines}
 use Rattle.theorems.proofs.LeavesFrom.{leaves-bytes, parse-from}
-use Rattle.theorems.proofs.Tiling.Leaves.{leaves-▹, bytes-append, after-yes, after-stop, while-after}
+use Rattle.theorems.proofs.Tiling.Leaves.{bytes-append, after-yes, after-stop, while-after}
 use Rattle.theorems.proofs.Tiling.Steady.{Steady-at, steady-then, steady-trivia, steady-skip, steady-bump}
-use Rattle.theorems.proofs.Tiling.Tiles.{Recut, Tiles}
+use Rattle.theorems.proofs.Tiling.Tiles.{Recut}
 use Rattle.theorems.proofs.TextLines.{file-none, lines-file, lines-behind}
 use Rattle.theorems.proofs.Replay.Laws.{leaves-shut}
-use Rattle.theorems.proofs.Replay.Items.{front, leaves-front, hash-step, item-retold, file-nil, file-more}
+use Rattle.theorems.proofs.Replay.Items.{front, leaves-front, hash-step, item-retold, file-more}
 
 -- What follows the leading leaves that pass a test is no longer.
 pub after-short : (p : Leaf → Bool) (ts : List Leaf) → length (after p ts) ≤ length ts

@@ -1,24 +1,22 @@
 -- The refusals of the seven calls.
-use Prim.Native.Nat.{ℕ, zero, suc, _+_, _*_, _<_, _≤_}
-use mathlib.Core.Path.{_≡_, refl, ap, sym, _∙_}
-use mathlib.Core.Bool.{Bool, true, false, not, _&&_, _||_, false≢true, or-true, and-eq-true-iff}
+use Prim.Native.Nat.{ℕ, _+_, _*_, _<_, _≤_}
+use mathlib.Core.Path.{_≡_, refl, ap, _∙_}
+use mathlib.Core.Bool.{Bool, true, false, not, _&&_, false≢true, or-true, and-eq-true-iff}
 use mathlib.Core.Logic.{_↔_, _⊎_, inl, inr}
-use mathlib.Core.List.{List, [], _∷_, _++_, cons-ne-nil}
-use borrow.Author.Tests.{ltb-true, ltb-false, lt-ltb, le-ltb, eqb-true, eqb-false, eq-eqb, ne-eqb, not-true, not-false}
+use mathlib.Core.List.{List, [], _∷_, _++_}
+use borrow.Author.Tests.{ltb-true, lt-ltb, le-ltb, eqb-true, eqb-false, eq-eqb, ne-eqb, not-true}
 use native.Mathlib.Omega.{arith}
-use lib.ListN.{length, replicate}
+use lib.ListN.{length}
 use lib.Dec.{eqb, ltb}
-use Rattle.definition.specs.Text.{if_then_else_}
 use Rattle.definition.specs.Runs.{text}
 use Rattle.definition.specs.Utf8.{utf8}
-use Rattle.definition.specs.SyntaxKind.{Kind}
 use Rattle.definition.specs.LineMap.{line-starts, rises, line-table}
 use Rattle.definition.specs.Unescaped.{unescaped}
 use Rattle.definition.specs.Glue.{Token, tokens, token-numbers}
 use Rattle.definition.specs.Tree.{Entry, Width, entries, entry-numbers, body-concats}
 use Rattle.definition.specs.Error.{Err, error-numbers}
 use Rattle.definition.specs.Syntax.{parse-define-body}
-use Rattle.definition.specs.Calls.{Check, Refusal, longest-source, most-concats, refusal, too-many, too-long, not-utf8, source-checks, too-many-concats, short-table, no-line-table, no-kind, counted, filled, full-reading, reading-checks, outcome, reading, Filled, reading-body, listing-tokens, building-lines, unescaping, looking-up, pasting}
+use Rattle.definition.specs.Calls.{Check, Refusal, longest-source, most-concats, refusal, too-many, too-long, not-utf8, source-checks, too-many-concats, short-table, no-line-table, no-kind, counted, filled, full-reading, reading-checks, outcome, reading, reading-body, listing-tokens, building-lines, unescaping, looking-up, pasting}
 use Rattle.theorems.specs.Refusals.{Pass, Given, Refuses, Zeros, Some-over, Rises, Line-table}
 
 -- A number is given exactly if its condition holds and no earlier one does.

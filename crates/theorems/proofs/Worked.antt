@@ -1,22 +1,21 @@
 -- The worked and the recorded readings: the law that turns their computed tests into an equation for each, and the grammar on them.
-use Prim.Native.Nat.{ℕ, zero, suc, _*_, _<_}
+use Prim.Native.Nat.{ℕ, _*_}
 use mathlib.Core.Path.{_≡_, refl, ap, ap₂, sym, _∙_, subst, subst⁻¹}
-use mathlib.Core.Bool.{Bool, true, false, _&&_, false≢true, and-eq-true-iff}
+use mathlib.Core.Bool.{true, false≢true, and-eq-true-iff}
 use mathlib.Core.List.{List, [], _∷_, _++_, map, List·Memᴰ, List·Memᴰ·not-nil, List·Memᴰ·cases-cons, List·Memᴰ·append-cases}
 use mathlib.Core.Logic.{inl, inr, _↔_}
 use lib.Dec.{eqb}
 use lib.ListN.{length, take, drop, getD}
 use lib.Seq.{take-append-seam}
 use borrow.Author.Tests.{eqb-true}
-use Rattle.definition.specs.Text.{ascii, same}
-use Rattle.definition.specs.Tree.{Leaf, Entry, Width, entries, entry-numbers}
-use Rattle.definition.specs.Syntax.{parse}
+use Rattle.definition.specs.Text.{same}
+use Rattle.definition.specs.Tree.{Leaf, Entry, Width, entry-numbers}
 use Rattle.definition.specs.Grammar.{Keeps}
-use Rattle.definition.specs.Calls.{Full, full-reading, entries-of, errors-of, Reading, outcome, reading, filled, padded}
+use Rattle.definition.specs.Calls.{full-reading, entries-of, errors-of, Reading, outcome, reading, filled, padded}
 use Rattle.definition.specs.Listed.{listed}
 use Rattle.definition.proofs.Worked.{Worked, worked, all-listed, worked-listed}
 use Rattle.definition.proofs.Recorded.{recorded, recorded-listed}
-use Rattle.theorems.specs.Demand3.{Demand3, entries-in, leaf-entries, leaf-of, leaves-read}
+use Rattle.theorems.specs.Demand3.{entries-in, leaf-entries, leaf-of, leaves-read}
 use Rattle.theorems.proofs.Refusals.{length-entries}
 use Rattle.theorems.proofs.Entries.{entries-back}
 use Rattle.theorems.proofs.Demand3.{accepted, demand3}

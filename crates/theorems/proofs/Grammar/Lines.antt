@@ -6,7 +6,7 @@ use mathlib.Core.List.{List, [], _∷_, cons-ne-nil}
 use mathlib.Core.Option.{Option, none, some}
 use mathlib.Core.Logic.{_⊎_, inl, inr}
 use Rattle.definition.specs.Tree.{Leaf}
-use Rattle.definition.specs.Parser.{is, trivia, newline-leaf, peek, Reader, _then_, nothing, bump}
+use Rattle.definition.specs.Parser.{trivia, newline-leaf, peek, Reader, _then_, nothing, bump}
 use Rattle.definition.specs.Syntax.{Directive, directive, unknown, pp-rs-ident, control-line}
 use Rattle.definition.specs.Grammar.{One, one, no-more, _⨟_, _⨾_, Eol, at-newline, at-end, t*, lparen, word-leaf, Closes, Rest, rest-of, Content, no-word, a-word}
 use Rattle.theorems.proofs.Grammar.Clean.{Clean, clean-then, of-kind, none-pass, clean-bump, bump-clean}

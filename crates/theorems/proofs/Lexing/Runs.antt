@@ -1,10 +1,9 @@
 -- The runs of a row join to the row, and those after the first are the runs of what it leaves.
-use Prim.Native.Nat.{ℕ, zero, suc}
-use mathlib.Core.Path.{_≡_, refl, ap, sym, _∙_}
+use mathlib.Core.Path.{_≡_, refl, ap, sym}
 use mathlib.Core.List.{List, [], _∷_, _++_, append-assoc}
 use mathlib.Core.Option.{Option, none, some}
 use lib.ListN.{length, drop}
-use Rattle.definition.specs.Runs.{Run, Row, list, joined, runs, grouped}
+use Rattle.definition.specs.Runs.{Run, joined, runs, grouped}
 
 module _ {B S : Type 0} where
   pub joined-append : (a b : List (Run B S)) → joined (a ++ b) ≡ joined a ++ joined b

@@ -1,14 +1,14 @@
 -- The tokens of a source join to it.
 use Prim.Native.Nat.{ℕ, _≤_}
-use mathlib.Core.Path.{_≡_, refl, ap, sym, _∙_}
+use mathlib.Core.Path.{_≡_, refl, ap, _∙_}
 use mathlib.Core.Bool.{Bool}
-use mathlib.Core.List.{List, [], _∷_, _++_, map, append-assoc}
+use mathlib.Core.List.{List, [], _∷_, map, append-assoc}
 use lib.ListN.{length, length-append}
 use native.Mathlib.Omega.{arith}
-use Rattle.definition.specs.Runs.{Run, joined, grouped}
-use Rattle.definition.specs.Newline.{chars, char-more}
-use Rattle.definition.specs.Pre.{pres, Pre, pre-begin, pre-more}
-use Rattle.definition.specs.Glue.{Token, tokens, pre-kind, flat, glued, glues}
+use Rattle.definition.specs.Runs.{Run, joined}
+use Rattle.definition.specs.Newline.{chars}
+use Rattle.definition.specs.Pre.{pres}
+use Rattle.definition.specs.Glue.{Token, tokens, pre-kind, flat}
 use Rattle.theorems.proofs.Lexing.Runs.{joined-append, joined-grouped}
 
 module _ {S : Type 0} (k : Run Token S → ℕ) where

@@ -2,7 +2,6 @@
 use native.Mathlib.Omega.{arith}
 use borrow.Author.Needs.{needs}
 use Rattle.text.proofs.Ascii.{eight-highs, too-few}
-use Rattle.text.proofs.Cases.{cases}
 use Rattle.text.proofs.utf8.eight_ascii.Statement.{statement}
 use Rattle.text.proofs.utf8.eight_ascii.Tie as tie
 

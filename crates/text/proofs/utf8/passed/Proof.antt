@@ -1,7 +1,6 @@
 -- `passed` passes over ASCII where any character may follow.
 use borrow.Author.Needs.{needs}
 use Rattle.text.proofs.Ascii.{pass-eight, pass-none, pass-later}
-use Rattle.text.proofs.Cases.{cases}
 use Rattle.text.proofs.utf8.passed.Statement.{statement}
 use Rattle.text.proofs.utf8.passed.Tie as tie
 
