@@ -1,2 +1,3 @@
 pub mod Next
 pub mod Args
+pub mod Again

@@ -1,10 +1,4 @@
-pub mod Words
-pub mod Search
 pub mod Tails
 pub mod Groups
 pub mod Lines
 pub mod Items
-pub mod Grounds
-pub mod LentItem
-pub mod Advancing
-pub mod Filing

@@ -1,5 +1,3 @@
-pub mod Word
 pub mod Line
 pub mod Group
-pub mod Ground
-pub mod Advance
+pub mod Section

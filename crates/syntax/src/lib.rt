@@ -1,4 +1,3 @@
 // The directives (`syntax.rs`).
 pub mod group;
 pub mod line;
-pub mod word;

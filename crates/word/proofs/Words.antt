@@ -12,7 +12,7 @@ use Rattle.definition.specs.Tree.{Leaf}
 use Rattle.definition.specs.Syntax.{Directive, directive-named, directives}
 use Rattle.definition.specs.Grammar as grammar
 use Rattle.definition.specs.Grammar.{words, rest-after}
-use Rattle.syntax.specs.Word.{Word, row-at, spellings, spelling, Finds}
+use Rattle.word.specs.Word.{Word, row-at, spellings, spelling, Finds}
 
 -- The words at the fourteen places, and none at that of an unknown one.
 pub spelt-words :

@@ -4,10 +4,11 @@ use mathlib.Core.Path.{_≡_}
 use mathlib.Core.Bool.{Bool, false}
 use mathlib.Core.List.{List, [], _∷_, map}
 use mathlib.Core.Option.{Option, none, some}
-use Rattle.definition.specs.Text.{same}
+use Rattle.definition.specs.Text.{same, Kind}
 use Rattle.definition.specs.Unescaped.{unescaped}
 use Rattle.definition.specs.Tree.{Leaf}
-use Rattle.definition.specs.Syntax.{directive-named, directives}
+use Rattle.definition.specs.Parser.{nothing}
+use Rattle.definition.specs.Syntax.{Directive, directive-named, directives, relexed}
 use Rattle.definition.specs.Grammar.{words, rest-after}
 
 -- The places of the fourteen words, and the number of an unknown one.
@@ -35,3 +36,7 @@ pub record Finds (text : List ℕ) (w : ℕ) : Type 0 where
   pub most : w ≤ Word.UNKNOWN
   pub row : (n : ℕ) (again : List Leaf → List Leaf) → directive-named (directives n again) (unescaped text) ≡ row-at (directives n again) w
   pub rest : rest-after words (unescaped text) ≡ row-at (map (λ x. x .rest) words) w
+
+-- The directive at a place; n: where the source ends. An unknown word has none: its node is an ERROR, and nothing is read behind it.
+unfoldable pub directive-at : ℕ → ℕ → Directive
+directive-at n w = elim (row-at (directives n relexed) w) [ none ↦ record { spelt = []; node-kind = Kind.ERROR; reads = nothing } | some d ↦ d ]

@@ -1,10 +1,10 @@
 -- `find_word` searches the fourteen words.
 use Prim.Native.Nat.{_-_}
 use Rattle.text.proofs.Cases.{cases}
-use Rattle.syntax.specs.Word.{Word}
-use Rattle.syntax.proofs.Search.{Seeking, seeking-start, seeking-none, seeking-here, seeking-next}
-use Rattle.syntax.proofs.word.find_word.Statement.{statement}
-use Rattle.syntax.proofs.word.find_word.Tie as tie
+use Rattle.word.specs.Word.{Word}
+use Rattle.word.proofs.Search.{Seeking, seeking-start, seeking-none, seeking-here, seeking-next}
+use Rattle.word.proofs.find_word.Statement.{statement}
+use Rattle.word.proofs.find_word.Tie as tie
 
 abbrev Inv-search : tie.InvT-search
 Inv-search text w₀ w = Seeking text w

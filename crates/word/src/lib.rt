@@ -1,6 +1,6 @@
 // Which directive a word is.
 ghost use mathlib.Core.Path.{_≡_};
-ghost use Rattle.syntax.specs.Word.{spelt-as, Finds};
+ghost use Rattle.word.specs.Word.{spelt-as, Finds};
 
 // The places of the fourteen words in the table of directives, and what stands for an unknown word.
 pub struct Word {

@@ -11,9 +11,9 @@ use Rattle.parser.specs.Rest.{Held}
 use Rattle.parser.proofs.Taking.{none-seen}
 use Rattle.parser_run.specs.Reads.{Stand, unread-at, Reads}
 use Rattle.parser_run.proofs.Laws.{reads-is, reads-nothing, Toward, begun, toward-then}
-use Rattle.syntax.specs.Ground.{Grounded}
-use Rattle.syntax.specs.Advance.{items-of, Advances}
-use Rattle.syntax.proofs.Grounds.{grounded}
+use Rattle.file.specs.Ground.{Grounded}
+use Rattle.file.specs.Advance.{items-of, Advances}
+use Rattle.file.proofs.Grounds.{grounded}
 
 pub record Filing (src : List ℕ) (m₀ m : Stand) : Type 0 where
   pub toward : Toward src (items-of src) m (items-of src) m₀

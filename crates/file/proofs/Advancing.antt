@@ -30,7 +30,7 @@ use Rattle.parser.proofs.Taking.{none-seen, one-seen}
 use Rattle.parser_run.specs.declared.ParserRun.{ParserRun}
 use Rattle.parser_run.specs.Reads.{Stand, stand, with-run, unread-at, Reads}
 use Rattle.parser_run.proofs.Laws.{Rowed, took}
-use Rattle.syntax.specs.Advance.{items-of, Advances}
+use Rattle.file.specs.Advance.{items-of, Advances}
 
 -- What is seen lies where it starts.
 pub seen-lies : (src : List ℕ) (s : Seen) → Held src s → Placed (s .start) (unread src s)

@@ -15,8 +15,8 @@ use Rattle.tree.specs.Machine.{run}
 use Rattle.tree.specs.Writes.{Ready, Wrote}
 use Rattle.tree.proofs.Writes.{writes}
 use Rattle.parser_run.specs.Reads.{Stand, writer-at, unread-at, Gives}
-use Rattle.syntax.specs.Ground.{Grounded}
-use Rattle.syntax.specs.Advance.{Fitting}
+use Rattle.file.specs.Ground.{Grounded}
+use Rattle.file.specs.Advance.{Fitting}
 
 front-lies : (a : ℕ) (us ts : List Leaf) → Placed a (us ++ ts) → Placed a us
 unfolding Placed

@@ -11,9 +11,9 @@ use Rattle.tree.proofs.LentTail.{lent-tail}
 use Rattle.parser.specs.Rest.{unread, run-of}
 use Rattle.parser_run.specs.declared.ParserRun.{ParserRun}
 use Rattle.parser_run.specs.Reads.{with-run, stand, Reads}
-use Rattle.syntax.specs.Ground.{Grounded}
-use Rattle.syntax.specs.Advance.{Fitting}
-use Rattle.syntax.proofs.Grounds.{ready}
+use Rattle.file.specs.Ground.{Grounded}
+use Rattle.file.specs.Advance.{Fitting}
+use Rattle.file.proofs.Grounds.{ready}
 
 -- The state at the front of the tail from a on, and that of a reading in it, on the whole table.
 abbrev pub in-front : ℕ → ParserRun → ParserRun

@@ -12,8 +12,8 @@ use native.Mathlib.Numerals.{add-one}
 use Rattle.definition.specs.Text.{same}
 use Rattle.definition.specs.Unescaped.{unescaped}
 use Rattle.definition.specs.Grammar.{words}
-use Rattle.syntax.specs.Word.{Word, row-at, spellings, spelling, spelt-as, Finds}
-use Rattle.syntax.proofs.Words.{place, finds, past}
+use Rattle.word.specs.Word.{Word, row-at, spellings, spelling, spelt-as, Finds}
+use Rattle.word.proofs.Words.{place, finds, past}
 
 -- Comparing goes both ways.
 eqb-sym : (x y : ℕ) → eqb x y ≡ eqb y x

@@ -2,10 +2,10 @@
 use borrow.Author.Needs.{needs}
 use Rattle.definition.specs.Text.{ascii}
 use Rattle.definition.specs.Grammar.{words}
-use Rattle.syntax.specs.Word.{row-at, spellings, spelling, spelt-as}
-use Rattle.syntax.proofs.Search.{no-word}
-use Rattle.syntax.proofs.word.spelt.Statement.{statement}
-use Rattle.syntax.proofs.word.spelt.Tie as tie
+use Rattle.word.specs.Word.{row-at, spellings, spelling, spelt-as}
+use Rattle.word.proofs.Search.{no-word}
+use Rattle.word.proofs.spelt.Statement.{statement}
+use Rattle.word.proofs.spelt.Tie as tie
 
 pub spelt-spec : {M : Type 1} → statement M
 unfolding ascii words row-at spellings spelling spelt-as

@@ -1,0 +1,4 @@
+pub mod Grounds
+pub mod LentItem
+pub mod Advancing
+pub mod Filing

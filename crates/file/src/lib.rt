@@ -1,0 +1,1 @@
+// The items of a source: text lines, groups and directives (`file` of `syntax.rs`).
