@@ -9,10 +9,12 @@ use lib.Dec.{eqb}
 use lib.ListN.{length, drop}
 use native.Mathlib.Omega.{arith}
 use native.Mathlib.Numerals.{add-one}
-use Rattle.definition.specs.Text.{same}
+use Rattle.definition.specs.Text.{same, Kind}
 use Rattle.definition.specs.Unescaped.{unescaped}
+use Rattle.definition.specs.Parser.{nothing}
+use Rattle.definition.specs.Syntax.{directives, relexed}
 use Rattle.definition.specs.Grammar.{words}
-use Rattle.word.specs.Word.{Word, row-at, spellings, spelling, spelt-as, Finds}
+use Rattle.word.specs.Word.{Word, row-at, spellings, spelling, spelt-as, Finds, directive-at}
 use Rattle.word.proofs.Words.{place, finds, past}
 
 -- Comparing goes both ways.
@@ -46,6 +48,11 @@ beyond (suc n) w h =
 pub no-word : (w : ℕ) (text : List ℕ) → Others Word.UNKNOWN w → false ≡ spelt-as w text
 unfolding spelt-as spelling spellings words
 no-word w text h = rw (past spellings w (beyond Word.UNKNOWN w h), spelt-as)
+
+-- Nor a directive, n: where the source ends.
+pub no-directive : (w : ℕ) → Others Word.UNKNOWN w → (n : ℕ) → directive-at n w ≡ record { spelt = []; node-kind = Kind.ERROR; reads = nothing }
+unfolding directive-at directives
+no-directive w h n = rw (past (directives n relexed) w (beyond Word.UNKNOWN w h), directive-at)
 
 -- In any list of words: s is the word at w, or it is looked for behind it.
 module _ (s : List ℕ) where

@@ -1,5 +1,5 @@
 -- The place of a word leads to its row in the reader's table and in the grammar's.
-use Prim.Native.Nat.{ℕ, zero, suc, _≤_}
+use Prim.Native.Nat.{ℕ, zero, suc, _≤_, _<_}
 use mathlib.Core.Path.{_≡_, refl, ap, _∙_}
 use mathlib.Core.Bool.{Bool, true, false}
 use mathlib.Core.List.{List, [], _∷_, map}
@@ -9,10 +9,10 @@ use native.Mathlib.Omega.{arith}
 use Rattle.definition.specs.Text.{same, if_then_else_, ascii}
 use Rattle.definition.specs.Unescaped.{unescaped}
 use Rattle.definition.specs.Tree.{Leaf}
-use Rattle.definition.specs.Syntax.{Directive, directive-named, directives}
+use Rattle.definition.specs.Syntax.{Directive, directive-named, directives, relexed}
 use Rattle.definition.specs.Grammar as grammar
 use Rattle.definition.specs.Grammar.{words, rest-after}
-use Rattle.word.specs.Word.{Word, row-at, spellings, spelling, Finds}
+use Rattle.word.specs.Word.{Word, row-at, spellings, spelling, Finds, directive-at}
 
 -- The words at the fourteen places, and none at that of an unknown one.
 pub spelt-words :
@@ -69,3 +69,20 @@ unfolding row-at
 past [] w h = refl
 past (x ∷ xs) zero h = absurd (omega arith)
 past (x ∷ xs) (suc w) h = past xs w (omega arith)
+
+-- Up to it there is one.
+within : {A : Type 0} (xs : List A) (w : ℕ) (other : A) → w < length xs → row-at xs w ≡ some (elim (row-at xs w) [ none ↦ other | some x ↦ x ])
+unfolding row-at
+within [] w other h = absurd (omega arith)
+within (x ∷ xs) zero other h = refl
+within (x ∷ xs) (suc w) other h = within xs w other (omega arith)
+
+-- The word that is found is that of the directive at its place, or of none.
+module _ {text : List ℕ} {w : ℕ} (f : Finds text w) where
+  pub found-known : (w ≡ Word.UNKNOWN → ⊥) → (n : ℕ) → directive-named (directives n relexed) (unescaped text) ≡ some (directive-at n w)
+  unfolding directive-at directives
+  found-known k n = f .row n relexed ∙ within (directives n relexed) w _ (omega (arith, k, f .most))
+
+  pub found-unknown : w ≡ Word.UNKNOWN → (n : ℕ) → directive-named (directives n relexed) (unescaped text) ≡ none
+  unfolding directives
+  found-unknown k n = f .row n relexed ∙ past (directives n relexed) w (omega (arith, k))

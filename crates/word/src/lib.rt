@@ -1,6 +1,8 @@
 // Which directive a word is.
+use syntax_kind::kind::Kind;
 ghost use mathlib.Core.Path.{_≡_};
-ghost use Rattle.word.specs.Word.{spelt-as, Finds};
+ghost use Prim.Native.Nat.{ℕ};
+ghost use Rattle.word.specs.Word.{spelt-as, Finds, directive-at};
 
 // The places of the fourteen words in the table of directives, and what stands for an unknown word.
 pub struct Word {
@@ -75,5 +77,28 @@ pub fn find_word(text: &[u8]) -> usize
             break 'search w;
         }
         w += 1;
+    }
+}
+
+// The kind of the node of the directive at a place.
+pub fn node_kind(w: usize) -> u8
+    ensures { λ r. ⌜ ((n : ℕ) → r ≡ directive-at n w .node-kind) ⌝ }
+{
+    match w {
+        Word::INCLUDE => Kind::PP_INCLUDE,
+        Word::DEFINE => Kind::PP_DEFINE,
+        Word::UNDEF => Kind::PP_UNDEF,
+        Word::LINE => Kind::PP_LINE,
+        Word::ERROR => Kind::PP_ERROR,
+        Word::PRAGMA => Kind::PP_PRAGMA,
+        Word::VERSION => Kind::PP_VERSION,
+        Word::IF => Kind::PP_IF,
+        Word::IFDEF => Kind::PP_IFDEF,
+        Word::IFNDEF => Kind::PP_IFNDEF,
+        Word::ELIF => Kind::PP_ELIF,
+        Word::ELSE => Kind::PP_ELSE,
+        Word::ENDIF => Kind::PP_ENDIF,
+        Word::EXTENSION => Kind::PP_EXTENSION,
+        _ => Kind::ERROR,
     }
 }
