@@ -3,7 +3,7 @@ use parser_run::ParserRun;
 use syntax_kind::kind::Kind;
 use tree::level::OPEN_LEVELS;
 ghost use mathlib.Core.Path.{_≡_};
-ghost use mathlib.Core.Bool.{true, _||_};
+ghost use mathlib.Core.Bool.{true};
 ghost use lib.ListN.{length};
 ghost use Rattle.definition.specs.Syntax.{wanted, args, define-args};
 ghost use Rattle.parser.specs.Rest.{Reading};
@@ -83,16 +83,6 @@ fn place(
     }
 }
 
-// Whether there was an error before, or is one now.
-fn worse(before: bool, now: bool) -> bool
-    ensures { λ r. ⌜ r ≡ (before || now) ⌝ }
-{
-    if before {
-        return true;
-    }
-    now
-}
-
 // The argument list behind its LPAREN: identifiers and commas in turn, up to RPAREN, a NEWLINE or the end.
 fn args(
     src: &[u8],
@@ -112,7 +102,7 @@ fn args(
         let a = parser_run::skip_trivia(src, classes, table, held);
         let x = parser_run::peek(a);
         let r = place(src, classes, table, levels, errors, a, first);
-        bad = worse(bad, r.bad);
+        bad = crate::worse(bad, r.bad);
         held = r.state;
         if closes(x.kind) {
             return Listed { state: held, bad };
