@@ -11,7 +11,7 @@ use Rattle.definition.specs.Text.{if_then_else_, Kind}
 use Rattle.definition.specs.Tree.{Leaf}
 use Rattle.definition.specs.Error.{unexpected}
 use Rattle.definition.specs.Parser.{is, newline-leaf, peek, push, raise, Reader, _then_, wrap, skip-trivia, nothing, bump, maybe}
-use Rattle.definition.specs.Syntax.{pp-version, pp-extension, colon}
+use Rattle.definition.specs.Syntax.{pp-body, define-args, pp-define, pp-version, pp-extension, colon}
 use Rattle.theorems.proofs.Combinators.{then-assoc}
 use Rattle.theorems.proofs.Grammar.Clean.{or-left}
 use Rattle.parser.specs.declared.Seen.{Seen}
@@ -22,7 +22,7 @@ use Rattle.parser_run.specs.Reads.{Stand, stand, Reads, Quiet, Took}
 use Rattle.parser_run.specs.Expects.{kinds, either, passes, missed, expect-any, Expects}
 use Rattle.parser_run.proofs.Laws.{reads-is, reads-then}
 use Rattle.parser_run.proofs.Parts.{either-tested, maybe-here, maybe-other}
-use Rattle.directives.specs.Next.{expect-next, expect-node}
+use Rattle.directives.specs.Next.{expect-next, expect-node, define-head}
 
 -- `version`.
 module _ {src t o e t₁ o₁ e₁ t₂ : List ℕ} {st st₁ st₂ : ParserRun} (x : Reads src (expect-node (length src) Kind.DIGITS Kind.PP_VERSION_NUMBER) (stand t o e st) (stand t₁ o₁ e₁ st₁))
@@ -88,3 +88,18 @@ module _ {src t o e t₁ o₁ e₁ t₂ t₃ e₃ : List ℕ} {st st₁ st₂ st
 
   pub extension-missed : f ≡ false → Reads src (pp-extension (length src)) (stand t o e st) (stand t₃ o₁ e₃ st₃)
   extension-missed i = extension-by (reads-is (z .flat .reads o₁) (colon-missed (length src) _ (unread src (st₂ .run .seen)) (sym (z .found-is) ∙ i)))
+
+-- `define`: the name, the arguments behind it, and the body.
+module _ {src t o e t₁ o₁ e₁ : List ℕ} {st st₁ : ParserRun} (x : Reads src (expect-next (length src) Kind.IDENT_KW) (stand t o e st) (stand t₁ o₁ e₁ st₁)) {s : Seen} (q : s ≡ st₁ .run .seen) where
+  pub head-args : {m : Stand} → s .kind ≡ Kind.LPAREN → Reads src (define-args (length src)) (stand t₁ o₁ e₁ st₁) m → Reads src (define-head (length src)) (stand t o e st) m
+  head-args i z = reads-then x (maybe-here q (λ w. absurd (omega arith)) i z)
+
+  pub head-none : (s .kind ≡ Kind.LPAREN → ⊥) → Reads src (define-head (length src)) (stand t o e st) (stand t₁ o₁ e₁ st₁)
+  head-none i = reads-then x (maybe-other q (define-args (length src)) (λ w. absurd (omega arith)) i (x .gives .held))
+
+pub define-read : {src t o e t₁ o₁ e₁ t₂ o₂ : List ℕ} {st st₁ st₂ : ParserRun} → Reads src (define-head (length src)) (stand t o e st) (stand t₁ o₁ e₁ st₁)
+    → Quiet src (pp-body Kind.PP_DEFINE_BODY) t₁ o₁ st₁ t₂ o₂ st₂ → Reads src (pp-define (length src)) (stand t o e st) (stand t₂ o₂ e₁ st₂)
+unfolding pp-define
+define-read {src} {e₁ = e₁} {st = st} x y =
+    let us = unread src (st .run .seen) in
+    reads-is (reads-then x (y .reads e₁)) (then-assoc skip-trivia _ _ us ∙ then-assoc _ _ _ us)

@@ -1,6 +1,7 @@
 // The directives, each from behind its word (`syntax.rs`).
 pub mod args;
 pub mod body;
+pub mod define;
 
 use parser_run::ParserRun;
 use syntax_kind::kind::Kind;
