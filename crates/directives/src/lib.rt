@@ -2,6 +2,7 @@
 pub mod args;
 pub mod body;
 pub mod define;
+pub mod rest;
 
 use parser_run::ParserRun;
 use syntax_kind::kind::Kind;

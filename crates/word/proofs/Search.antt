@@ -54,6 +54,16 @@ pub no-directive : (w : ℕ) → Others Word.UNKNOWN w → (n : ℕ) → directi
 unfolding directive-at directives
 no-directive w h n = rw (past (directives n relexed) w (beyond Word.UNKNOWN w h), directive-at)
 
+-- Behind `else` and `endif`, and where there is no directive, nothing is read.
+pub nothing-behind : (w : ℕ) → Others Word.ELSE w → (w ≡ Word.EXTENSION → ⊥) → (n : ℕ) → directive-at n w .reads ≡ nothing
+unfolding directive-at row-at directives
+nothing-behind w h k n = go (eqb w Word.ELSE) refl (eqb w Word.ENDIF) refl
+  where
+    go : (a : Bool) → eqb w Word.ELSE ≡ a → (b : Bool) → eqb w Word.ENDIF ≡ b → directive-at n w .reads ≡ nothing
+    go true e b f = rw (eqb-true w Word.ELSE e) refl
+    go false e true f = rw (eqb-true w Word.ENDIF f) refl
+    go false e false f = rw (no-directive w (((h, eqb-false w Word.ELSE e), eqb-false w Word.ENDIF f), k) n) refl
+
 -- In any list of words: s is the word at w, or it is looked for behind it.
 module _ (s : List ℕ) where
   is-at : List (List ℕ) → ℕ → Bool
