@@ -9,10 +9,10 @@ use Rattle.definition.specs.LineMap.{last-line, get-line-and-col}
 use Rattle.definition.specs.Error.{Err, error-numbers}
 use Rattle.definition.specs.Calls.{padded}
 use Rattle.theorems.proofs.Refusals.{length-errors}
-use Rattle.text.specs.Row.{far, within, Laid}
-use Rattle.text.proofs.Tables.{zeros}
-use Rattle.text.proofs.Rows as rows
-use Rattle.text.proofs.Rows.{laid-none, laid-more, zeros-whole, zeros-lost}
+use Rattle.table.specs.Row.{far, within, Laid}
+use Rattle.table.proofs.Tables.{zeros}
+use Rattle.table.proofs.Rows as rows
+use Rattle.table.proofs.Rows.{laid-none, laid-more, zeros-whole, zeros-lost}
 use Rattle.error.specs.Log.{fault-of, numbers, Log, log, add, adds}
 
 -- The numbers of errors whose lines and columns are left 0 are those under no line table.

@@ -10,8 +10,8 @@ use Rattle.definition.specs.LineMap.{LineCol, get-line-and-col}
 use Rattle.definition.specs.Error.{Err, error-numbers}
 use Rattle.definition.specs.Calls.{padded}
 use Rattle.theorems.proofs.Refusals.{length-errors}
-use Rattle.text.proofs.Tables.{zeros}
-use Rattle.text.proofs.Sets.{set-right}
+use Rattle.table.proofs.Tables.{zeros}
+use Rattle.table.proofs.Sets.{set-right}
 use Rattle.error.specs.Log.{Offset, log, adds}
 use Rattle.error.specs.Lines.{located, resolved}
 use Rattle.error.proofs.Adds.{unlocated-numbers, cleared-whole}

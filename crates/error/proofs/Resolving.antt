@@ -8,7 +8,7 @@ use mir.Syntax.{w32}
 use lib.ListN.{length, take, getD, set, length-set}
 use Rattle.definition.specs.Tree.{Width}
 use Rattle.definition.specs.LineMap.{get-line-and-col}
-use Rattle.text.proofs.Rows.{Room, inside, outside, room?, fits-in, fits-out}
+use Rattle.table.proofs.Rows.{Room, inside, outside, room?, fits-in, fits-out}
 use Rattle.error.specs.Log.{Offset}
 use Rattle.error.specs.Lines.{Found, located, resolved}
 

@@ -7,7 +7,7 @@ use lib.ListN.{length, take, getD, set}
 use Rattle.definition.specs.Text.{if_then_else_}
 use Rattle.definition.specs.Tree.{Width}
 use Rattle.definition.specs.LineMap.{get-line-and-col, line-table}
-use Rattle.text.specs.Row.{fits}
+use Rattle.table.specs.Row.{fits}
 use Rattle.error.specs.Log.{Offset}
 
 -- The first numbers of a table are a line table.

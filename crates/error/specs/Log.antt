@@ -3,7 +3,7 @@ use Prim.Native.Nat.{ℕ}
 use mathlib.Core.List.{List, [], _∷_}
 use lib.ListN.{getD}
 use Rattle.definition.specs.Error.{Err}
-use Rattle.text.specs.Row.{Page, page, put}
+use Rattle.table.specs.Row.{Page, page, put}
 use Rattle.error.specs.declared.Fault.{Fault}
 
 -- Where the start, the line and the column of an error stand, counted from its first number, the sort.

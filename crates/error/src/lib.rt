@@ -1,7 +1,7 @@
 // The error log: errors as they are met, written into a lent table of ten numbers each (error.rs).
 pub mod lines;
 
-use text::row::put_row;
+use table::row::put_row;
 ghost use mathlib.Core.Path.{_≡_};
 ghost use Prim.Native.Nat.{_/_};
 ghost use Rattle.definition.specs.Tree.{Width};

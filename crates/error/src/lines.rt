@@ -3,7 +3,7 @@ use crate::COLUMN;
 use crate::LINE;
 use crate::START;
 use crate::WIDTH;
-use text::table::rest;
+use table::rest;
 ghost use mathlib.Core.Path.{_≡_};
 ghost use Prim.Native.Nat.{_+_, _≤_};
 ghost use lib.ListN.{length, take};

@@ -24,7 +24,7 @@ use Rattle.tree.specs.Machine.{Sheet, sheet, leafed, leafs}
 use Rattle.tree.specs.declared.Pen.{Pen}
 use Rattle.parser.specs.declared.Seen.{Seen}
 use Rattle.parser.specs.declared.Run.{Run}
-use Rattle.parser.specs.Lines.{Lined}
+use Rattle.text_lines.specs.Lines.{Lined}
 use Rattle.parser.specs.Rest.{unread, Held}
 use Rattle.parser.proofs.Taking.{none-seen, one-seen}
 use Rattle.parser_run.specs.declared.ParserRun.{ParserRun}

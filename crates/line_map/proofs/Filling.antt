@@ -10,10 +10,10 @@ use lib.Seq.{sets}
 use Rattle.definition.specs.Newline.{chars}
 use Rattle.definition.specs.LineMap.{line-starts}
 use Rattle.definition.specs.Calls.{longest-source}
-use Rattle.text.specs.Fills.{Written}
+use Rattle.table.specs.Fills.{Written}
 use Rattle.text.specs.Newline.{newline-len}
 use Rattle.text.proofs.Newlines.{newline-within}
-use Rattle.text.proofs.Tables.{Writing, write-more, write-none, write-long}
+use Rattle.table.proofs.Tables.{Writing, write-more, write-none, write-long}
 use Rattle.line_map.proofs.Ends.{ends-from, none-behind, none-here, one-here}
 
 -- From the table t₀, in which the first line starts, n starts are written, and i bytes are read.

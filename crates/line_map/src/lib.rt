@@ -3,14 +3,13 @@ use text::Counted;
 use text::newline;
 use text::refusal::Refusal;
 use text::source;
-use text::table;
 ghost use mathlib.Core.Path.{_≡_};
 ghost use Prim.Native.Nat.{_≤_};
 ghost use lib.ListN.{length};
 ghost use Rattle.definition.specs.LineMap.{line-starts};
 ghost use Rattle.definition.specs.Calls.{longest-source, building-lines, looking-up};
 ghost use Rattle.line_map.specs.Lookup.{looked, Looks-up};
-ghost use Rattle.text.specs.Fills.{Fills, Written};
+ghost use Rattle.table.specs.Fills.{Fills, Written};
 
 // Writes the line starts into a table, as far as it goes, and counts them all.
 fn fill(src: &[u8], lines: &mut [u32]) -> usize

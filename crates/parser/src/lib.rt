@@ -1,5 +1,4 @@
 // The parser's hold on its leaves: the one that is seen, taking it, and passing over trivia (`parser.rs`).
-pub mod text_lines;
 pub mod trivia;
 
 use glue::Lexer;

@@ -8,7 +8,7 @@ use borrow.Author.Tests.{lt-ltb, le-ltb, ne-eqb}
 use Rattle.definition.specs.Calls.{Check, Refusal, Full, full-reading, entries-of, errors-of, filled, refusal, too-many, too-many-concats, short-table, source-checks, reading-checks, outcome, reading}
 use Rattle.theorems.proofs.Refusals.{reading-refuses, reading-zero-entries, reading-zero-errors, reading-zero-lines}
 use Rattle.theorems.proofs.Demand3.{demand3}
-use Rattle.text.proofs.Tables.{zeros}
+use Rattle.table.proofs.Tables.{zeros}
 use Rattle.text.proofs.Refusals.{source-refused, source-passed}
 use Rattle.reading.specs.declared.Reading.{Reading}
 use Rattle.reading.specs.Promise.{left-by, Whole, Reads-source}

@@ -4,7 +4,7 @@ use mathlib.Core.Path.{_≡_}
 use mathlib.Core.Bool.{false}
 use mathlib.Core.List.{List}
 use Rattle.definition.specs.Calls.{full-reading, entries-of, too-many}
-use Rattle.text.specs.Row.{page, Laid}
+use Rattle.table.specs.Row.{page, Laid}
 use Rattle.error.specs.Log.{log, adds}
 use Rattle.parser_run.specs.declared.ParserRun.{ParserRun}
 

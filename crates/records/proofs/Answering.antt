@@ -7,7 +7,7 @@ use lib.ListN.{length, take, drop, length-take, length-append}
 use lib.Seq.{take-at, sets-eq, length-sets}
 use borrow.Author.Tests.{lt-ltb, le-ltb}
 use Rattle.definition.specs.Calls.{Filled, Looked, looking-up, pasting}
-use Rattle.text.specs.Fills.{Fills, Written}
+use Rattle.table.specs.Fills.{Fills, Written}
 use Rattle.text.specs.declared.Counted.{Counted}
 use Rattle.line_map.specs.Lookup.{Looks-up}
 use Rattle.line_map.specs.declared.Place.{Place}

@@ -6,8 +6,8 @@ use mathlib.Core.Path.{_≡_, refl, _∙_}
 use mathlib.Core.List.{List, [], _∷_}
 use lib.ListN.{length, drop, getD, set, length-drop}
 use lib.Seq.{sets, drop-drop, getD-drop}
-use Rattle.text.specs.Fills.{Written}
-use Rattle.text.proofs.Tables.{Writing, write-more, write-none, write-long}
+use Rattle.table.specs.Fills.{Written}
+use Rattle.table.proofs.Tables.{Writing, write-more, write-none, write-long}
 use Rattle.records.specs.Numbers.{number, numbers}
 
 -- Fewer than four bytes hold no number,

@@ -1,9 +1,8 @@
 // Little-endian numbers of 32 bits in a row of bytes.
-use text::table;
 ghost use mathlib.Core.Path.{_≡_};
 ghost use Prim.Native.Nat.{_+_, _≤_, _<_};
 ghost use lib.ListN.{length, getD};
-ghost use Rattle.text.specs.Fills.{Written};
+ghost use Rattle.table.specs.Fills.{Written};
 ghost use Rattle.records.specs.Numbers.{number as Numbers·number, numbers};
 
 // The byte at a place as a number.

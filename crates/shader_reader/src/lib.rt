@@ -5,7 +5,7 @@ use syntax_kind::paste::Pasted;
 use text::Counted;
 ghost use lib.ListN.{length};
 ghost use Rattle.definition.specs.Calls.{listing-tokens, building-lines, unescaping, looking-up, pasting};
-ghost use Rattle.text.specs.Fills.{Fills};
+ghost use Rattle.table.specs.Fills.{Fills};
 ghost use Rattle.line_map.specs.Lookup.{Looks-up};
 ghost use Rattle.syntax_kind.specs.Pastes.{Pastes};
 

@@ -1,10 +1,5 @@
 pub mod Cases
 pub mod Newlines
-pub mod Outcomes
 pub mod Refusals
-pub mod Tables
-pub mod Parts
-pub mod Sets
-pub mod Rows
 pub mod Utf8s
 pub mod Ascii

@@ -1,4 +1,2 @@
-pub mod Fills
 pub mod Newline
-pub mod Row
 pub mod Utf8

@@ -13,8 +13,8 @@ use Rattle.definition.specs.Pre.{pres}
 use Rattle.definition.specs.Glue.{tokens, token-numbers}
 use Rattle.definition.specs.Calls.{longest-source}
 use Rattle.theorems.specs.Step.{Stepped}
-use Rattle.text.specs.Row.{page, put, within, Laid}
-use Rattle.text.proofs.Rows.{laid-none, laid-more}
+use Rattle.table.specs.Row.{page, put, within, Laid}
+use Rattle.table.proofs.Rows.{laid-none, laid-more}
 use Rattle.glue.specs.declared.Lexer.{Lexer}
 use Rattle.glue.specs.declared.Step.{Step}
 use Rattle.glue.specs.declared.Next.{Next}

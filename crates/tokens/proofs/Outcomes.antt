@@ -14,13 +14,13 @@ use Rattle.definition.specs.Tree.{Width}
 use Rattle.definition.specs.Calls.{longest-source, refusal, Refusal, padded}
 use Rattle.theorems.proofs.Refusals.{length-tokens}
 use Rattle.theorems.proofs.Lexing.Tokens.{few-tokens}
-use Rattle.text.specs.Fills.{Fills}
-use Rattle.text.specs.Row.{far, Page, page, Laid}
-use Rattle.text.proofs.Tables.{zeros, written-padded}
-use Rattle.text.proofs.Parts.{written-cleared}
-use Rattle.text.proofs.Rows.{front-whole, short-when-far, fits-unless-far, past-far}
+use Rattle.table.specs.Fills.{Fills}
+use Rattle.table.specs.Row.{far, Page, page, Laid}
+use Rattle.table.proofs.Tables.{zeros, written-padded}
+use Rattle.table.proofs.Parts.{written-cleared}
+use Rattle.table.proofs.Rows.{front-whole, short-when-far, fits-unless-far, past-far}
 use Rattle.text.proofs.Refusals.{source-then, source-length}
-use Rattle.text.proofs.Outcomes.{call, call-short, call-whole}
+use Rattle.table.proofs.Outcomes.{call, call-short, call-whole}
 
 module _ (src : List ℕ) (room r n : ℕ) (t₀ t₁ : List ℕ) (e : r ≡ refusal (source-then src [])) (z : r ≡ 0) (b : length t₀ ≡ room)
     (k : Laid (token-numbers 0 (tokens false src)) (page t₀ 0) (page t₁ n)) where

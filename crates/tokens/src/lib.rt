@@ -3,19 +3,18 @@ use glue::Lexer;
 use glue::Next;
 use pre::PreLexer;
 use pre::class;
+use table::row::put_row;
 use text::Counted;
 use text::refusal::Refusal;
-use text::row::put_row;
 use text::source;
-use text::table;
 ghost use mathlib.Core.Path.{_≡_};
 ghost use mathlib.Core.Bool.{false};
 ghost use Prim.Native.Nat.{_≤_};
 ghost use lib.ListN.{length};
 ghost use Rattle.definition.specs.Glue.{tokens, token-numbers};
 ghost use Rattle.definition.specs.Calls.{longest-source, listing-tokens};
-ghost use Rattle.text.specs.Fills.{Fills};
-ghost use Rattle.text.specs.Row.{page, Laid};
+ghost use Rattle.table.specs.Fills.{Fills};
+ghost use Rattle.table.specs.Row.{page, Laid};
 
 // How many numbers a token has.
 const WIDTH: usize = 3;

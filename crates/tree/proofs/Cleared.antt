@@ -8,9 +8,9 @@ use lib.ListN.{length, getD, length-replicate, getD-replicate, List·getD-eq-def
 use Rattle.definition.specs.Tree.{Forest, entry-numbers}
 use Rattle.definition.specs.Calls.{padded}
 use Rattle.theorems.specs.Height.{open-levels}
-use Rattle.text.specs.Row.{Page, page, Laid}
-use Rattle.text.proofs.Tables.{zeros}
-use Rattle.text.proofs.Rows.{zeros-whole, zeros-lost}
+use Rattle.table.specs.Row.{Page, page, Laid}
+use Rattle.table.proofs.Tables.{zeros}
+use Rattle.table.proofs.Rows.{zeros-whole, zeros-lost}
 use Rattle.tree.specs.Machine.{events, far, pen-at, Writer, writer, run}
 use Rattle.tree.specs.Writes.{Free, within, Standing, Ready, entries-at}
 use Rattle.tree.proofs.Writes.{page-of, writes-laid}

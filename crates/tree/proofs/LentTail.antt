@@ -9,10 +9,10 @@ use borrow.Rule.Slice.PartMut.{putMid}
 use lib.ListN.{length, take, drop, length-append, length-drop, take-append-drop}
 use lib.Seq.{sets, length-sets, length-take-le, take-all, take-length}
 use Rattle.definition.specs.Tree.{Forest, size, Entry}
-use Rattle.text.specs.Row.{far, Page, page}
-use Rattle.text.proofs.Parts.{part-is, part-back}
-use Rattle.text.proofs.Sets.{sets-right}
-use Rattle.text.proofs.Rows.{Room, inside, outside, room?, put-in, put-out, puts, length-puts, puts-far}
+use Rattle.table.specs.Row.{far, Page, page}
+use Rattle.table.proofs.Parts.{part-is, part-back}
+use Rattle.table.proofs.Sets.{sets-right}
+use Rattle.table.proofs.Rows.{Room, inside, outside, room?, put-in, put-out, puts, length-puts, puts-far}
 use Rattle.tree.specs.declared.Pen.{Pen}
 use Rattle.tree.specs.Machine.{events, numbers, enter, writer, run}
 use Rattle.tree.specs.Tail.{tail-start, behind, at-front, rejoined}

@@ -5,8 +5,8 @@ use mathlib.Core.List.{List}
 use native.Mathlib.Omega.{arith}
 use lib.ListN.{length, set, length-set}
 use Rattle.definition.specs.Tree.{Entry, Width, entry-numbers, node-entry}
-use Rattle.text.specs.Row.{far, Page, page}
-use Rattle.text.proofs.Rows.{Room, inside, outside, room?, fits-in, fits-out, put-out, length-put, puts, length-puts, puts-far, set-later}
+use Rattle.table.specs.Row.{far, Page, page}
+use Rattle.table.proofs.Rows.{Room, inside, outside, room?, fits-in, fits-out, put-out, length-put, puts, length-puts, puts-far, set-later}
 use Rattle.tree.specs.Machine.{Offset, numbers, enter, patched, open-entry}
 
 -- Kind and end of an entry put in, if it had room.

@@ -5,7 +5,7 @@ use mathlib.Core.List.{List, _++_}
 use native.Mathlib.Omega.{arith}
 use lib.ListN.{length, take, drop, getD, length-append, length-drop}
 use lib.Seq.{length-take-le, getD-drop, drop-drop, drop-at}
-use Rattle.text.specs.Row.{far}
+use Rattle.table.specs.Row.{far}
 use Rattle.tree.specs.Tail.{tail-base, Part, from-front}
 
 -- All of a table,

@@ -6,7 +6,7 @@ use lib.ListN.{length}
 use Rattle.definition.specs.Tree.{Forest, nil, leaf, node, _▹_, row}
 use Rattle.definition.specs.Tree as tree
 use Rattle.definition.specs.Syntax.{last-stop}
-use Rattle.text.proofs.Rows.{length-put}
+use Rattle.table.proofs.Rows.{length-put}
 use Rattle.tree.specs.Machine.{Event, Open, Shut, Leaf, leaf-event, events, numbers, open-entry, Sheet, Writer, with-levels, leafed, leafs, step, run}
 use Rattle.tree.proofs.Patch.{length-patched}
 

@@ -5,7 +5,7 @@ use mathlib.Core.List.{List}
 use native.Mathlib.Omega.{arith}
 use lib.ListN.{length, set}
 use Rattle.definition.specs.Tree.{Width, leaf-entry}
-use Rattle.text.specs.Row.{Page, page}
+use Rattle.table.specs.Row.{Page, page}
 use Rattle.tree.specs.declared.Pen.{Pen}
 use Rattle.tree.specs.Machine.{Open, Shut, Offset, open-entry, enter, patched, level-at, set-level, one-deeper, pen-at, sheet, writer, leafed, step}
 use Rattle.tree.specs.Tail.{tail-base, behind, at-front, rejoined}

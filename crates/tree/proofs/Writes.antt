@@ -11,8 +11,8 @@ use Rattle.definition.specs.Tree.{Leaf, long, stop, Forest, nil, leaf, node, le
 use Rattle.theorems.specs.Placed.{Placed}
 use Rattle.theorems.proofs.Refusals.{length-entries}
 use Rattle.theorems.specs.Height.{height, open-levels}
-use Rattle.text.specs.Row.{far, Page, page, Laid}
-use Rattle.text.proofs.Rows.{length-put, put-stands, puts, puts-++, length-puts, laid-none, puts-laid}
+use Rattle.table.specs.Row.{far, Page, page, Laid}
+use Rattle.table.proofs.Rows.{length-put, put-stands, puts, puts-++, length-puts, laid-none, puts-laid}
 use Rattle.tree.specs.Machine.{Open, Shut, events, numbers, open-entry, enter, pen-at, Writer, writer, leafed, step, run}
 use Rattle.tree.specs.Writes.{Free, Standing, Ready, entries-at, Wrote}
 use Rattle.tree.proofs.Patch.{patched-later}

@@ -7,8 +7,8 @@ use Rattle.definition.specs.Text.{if_then_else_}
 use Rattle.definition.specs.Tree.{Forest, nil, leaf, node, stop, Entry, Width, entry-numbers, leaf-entry, node-entry}
 use Rattle.definition.specs.Tree as tree
 use Rattle.theorems.specs.Height.{open-levels}
-pub use Rattle.text.specs.Row.{far}
-use Rattle.text.specs.Row.{Page, page, fits, put}
+pub use Rattle.table.specs.Row.{far}
+use Rattle.table.specs.Row.{Page, page, fits, put}
 use Rattle.tree.specs.declared.Pen.{Pen}
 
 -- What a reader hands the writer: a node begins, the innermost open node ends and has this kind, a leaf with its kind, start and end.

@@ -6,7 +6,7 @@ use lib.ListN.{length, take, drop, getD}
 use Rattle.definition.specs.Tree.{Forest, leaves, size, Entry, Width, entries, entry-numbers}
 use Rattle.theorems.specs.Placed.{Placed}
 use Rattle.theorems.specs.Height.{height, open-levels}
-pub use Rattle.text.specs.Row.{Stands, within, past}
+pub use Rattle.table.specs.Row.{Stands, within, past}
 use Rattle.tree.specs.Machine.{far, Writer}
 
 -- Levels of which none from d on is open.

@@ -1,8 +1,7 @@
 // The entries of a table.
-use text::row::put_row;
-use text::table;
+use table::row::put_row;
 ghost use mathlib.Core.Path.{_≡_};
-ghost use Rattle.text.specs.Row.{page};
+ghost use Rattle.table.specs.Row.{page};
 ghost use Rattle.tree.specs.Machine.{enter, patched};
 
 // The forms of an entry.

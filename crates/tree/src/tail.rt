@@ -1,6 +1,6 @@
 // The unused tail of a table, handed on from its middle.
 use crate::Pen;
-use text::row::FAR;
+use table::row::FAR;
 ghost use mathlib.Core.Path.{_≡_};
 ghost use Rattle.tree.specs.Tail.{tail-start, tail-base, behind, rejoined};
 

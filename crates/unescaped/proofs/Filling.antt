@@ -6,8 +6,8 @@ use mathlib.Core.List.{List}
 use lib.ListN.{length, drop, getD, set}
 use lib.Seq.{sets}
 use Rattle.definition.specs.Unescaped.{unescaped}
-use Rattle.text.specs.Fills.{Written}
-use Rattle.text.proofs.Tables.{Writing, write-more, write-none, write-long}
+use Rattle.table.specs.Fills.{Written}
+use Rattle.table.proofs.Tables.{Writing, write-more, write-none, write-long}
 use Rattle.unescaped.specs.Continuation.{continuation}
 use Rattle.unescaped.proofs.Continuations as continuations
 

@@ -3,13 +3,12 @@ use text::Counted;
 use text::newline;
 use text::refusal::Refusal;
 use text::source;
-use text::table;
 ghost use mathlib.Core.Path.{_≡_};
 ghost use lib.ListN.{length, drop};
 ghost use Rattle.definition.specs.Text.{same};
 ghost use Rattle.definition.specs.Unescaped.{unescaped};
 ghost use Rattle.definition.specs.Calls.{unescaping};
-ghost use Rattle.text.specs.Fills.{Fills, Written};
+ghost use Rattle.table.specs.Fills.{Fills, Written};
 ghost use Rattle.unescaped.specs.Continuation.{continuation};
 
 // How many bytes the continuation at a place has, a backslash and a newline; 0: none stands there.

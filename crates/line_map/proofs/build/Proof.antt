@@ -2,7 +2,7 @@
 use Rattle.definition.specs.Calls.{building-lines}
 use Rattle.theorems.proofs.Lexing.Lines.{few-lines}
 use Rattle.text.proofs.Cases.{cases}
-use Rattle.text.proofs.Outcomes.{call-refused, written-short, written-whole, written-fits}
+use Rattle.table.proofs.Outcomes.{call-refused, written-short, written-whole, written-fits}
 use Rattle.text.proofs.Refusals.{source-length}
 use Rattle.line_map.proofs.build.Statement.{statement}
 use Rattle.line_map.proofs.build.Tie as tie

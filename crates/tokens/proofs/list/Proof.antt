@@ -3,7 +3,7 @@ use mathlib.Core.Path.{refl}
 use native.Mathlib.Omega.{arith}
 use Rattle.definition.specs.Calls.{listing-tokens}
 use Rattle.text.proofs.Cases.{cases}
-use Rattle.text.proofs.Outcomes.{call-refused}
+use Rattle.table.proofs.Outcomes.{call-refused}
 use Rattle.text.proofs.Refusals.{source-length}
 use Rattle.tokens.proofs.Outcomes.{tokens-short, tokens-whole, count-fits}
 use Rattle.tokens.proofs.list.Statement.{statement}

@@ -3,7 +3,7 @@ use native.Mathlib.Nat.{le-step}
 use Rattle.definition.specs.Calls.{unescaping}
 use Rattle.theorems.proofs.Lexing.Unescapes.{unescaped-fewer}
 use Rattle.text.proofs.Cases.{cases}
-use Rattle.text.proofs.Outcomes.{call-refused, written-short, written-whole, written-fits}
+use Rattle.table.proofs.Outcomes.{call-refused, written-short, written-whole, written-fits}
 use Rattle.unescaped.proofs.unescape.Statement.{statement}
 use Rattle.unescaped.proofs.unescape.Tie as tie
 

@@ -1,0 +1,5 @@
+pub mod Sets
+pub mod Tables
+pub mod Parts
+pub mod Rows
+pub mod Outcomes

@@ -1,0 +1,3 @@
+pub mod Lining
+pub mod Quickly
+pub mod Showing
