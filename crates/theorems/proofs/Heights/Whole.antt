@@ -6,7 +6,6 @@ use mathlib.Core.List.{List, [], _∷_}
 use mathlib.Core.Option.{Option, none, some}
 use native.Mathlib.Omega.{arith}
 use lib.ListN.{length}
-use Rattle.definition.specs.Text.{same, if_then_else_}
 use Rattle.definition.specs.SyntaxKind.{Kind}
 use Rattle.definition.specs.Unescaped.{unescaped}
 use Rattle.definition.specs.Glue.{tokens}
@@ -16,6 +15,7 @@ use Rattle.definition.specs.Parser.{is, trivia, newline-leaf, inline, while, af
 use Rattle.definition.specs.Syntax.{trimmed, pp-include, Directive, directives, directive-named, directive, pp-rs-ident, Line, group, control-line, hash-item, item, file, relexed, parse, parse-define-body}
 use Rattle.definition.specs.Calls.{too-many}
 use Rattle.theorems.specs.Height.{height, open-levels, Low}
+use Rattle.theorems.proofs.Named.{All, done, _&_, Found, unnamed, one, found}
 use Rattle.theorems.proofs.Heights.Laws.{largest-few, low-nil, low-row, low-▹, low-node, low-more}
 use Rattle.theorems.proofs.Heights.Bodies.{low-tokens}
 use Rattle.theorems.proofs.Heights.Readers.{Shallow, low-if, low-then, low-wrap, low-skip, low-trivia, low-nothing, low-bump, low-group, low-pp-body, low-finish, low-unknown, low-define, low-if-ident, low-version, low-extension}
@@ -28,24 +28,6 @@ inner = 2
 record Ordinary (d : Directive) : Type 0 where
   no-body : body-kind (d .node-kind) ≡ false
   shallow : Shallow inner (d .reads)
-
-infixr 30 _&_
-data All : List Directive → Type 0 where
-  done : All []
-  _&_ : {d : Directive} {ds : List Directive} → Ordinary d → All ds → All (d ∷ ds)
-
-data Found : Option Directive → Type 0 where
-  unnamed : Found none
-  one : {d : Directive} → Ordinary d → Found (some d)
-
-found : {ds : List Directive} → All ds → (w : List ℕ) → Found (directive-named ds w)
-unfolding directive-named
-found done w = unnamed
-found (_&_ {d} {ds} o os) w = go (same (d .spelt) w) (found os w)
-  where
-    go : (b : Bool) → Found (directive-named ds w) → Found (if b then some d else directive-named ds w)
-    go true ih = one o
-    go false ih = ih
 
 low-directive : (w : Leaf) (d : Directive) → Ordinary d → Shallow inner (directive w d)
 unfolding directive
@@ -73,7 +55,7 @@ module _ (n : ℕ) (again : List Leaf → List Leaf) where
   low-include ts = low-pp-body Kind.PP_INCLUDE_PATH refl (again ts)
 
   -- The fourteen.
-  ordinary : All (directives n again)
+  ordinary : All Ordinary (directives n again)
   unfolding directives
   ordinary =
       record { no-body = refl; shallow = low-include }
@@ -100,7 +82,7 @@ module _ (n : ℕ) (again : List Leaf → List Leaf) where
       Goal : Type 0
       Goal = Low-line (control-line n again (t ∷ ts))
 
-      word : (o : Option Directive) → directive-named (directives n again) (unescaped (t .bytes)) ≡ o → newline-leaf t ≡ false → is Kind.LPAREN t ≡ false → Found o → Goal
+      word : (o : Option Directive) → directive-named (directives n again) (unescaped (t .bytes)) ≡ o → newline-leaf t ≡ false → is Kind.LPAREN t ≡ false → Found Ordinary o → Goal
       word _ e a b unnamed = rw (a, b, e, control-line) (record { kind = of-kind refl; low = low-unknown t (t ∷ ts) })
       word _ e a b (one {d} o) = rw (a, b, e, control-line) (record { kind = of-kind (o .no-body); low = low-directive t d o (t ∷ ts) })
 
