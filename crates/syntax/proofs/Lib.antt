@@ -2,3 +2,4 @@ pub mod Tails
 pub mod Groups
 pub mod Lines
 pub mod Items
+pub mod Sections
