@@ -13,3 +13,10 @@ pub record Hashed (src classes : List ℕ) (s : Seen) (before : Trivia) : Type 0
   pub reading : Reading src classes s
   pub passes : Passes src s before
   pub hash : before .next .kind ≡ Kind.HASH
+
+-- The leaf that is seen may be a directive's word: it is no NEWLINE, and begins no group.
+pub record Worded (src classes : List ℕ) (s : Seen) : Type 0 where
+  pub reading : Reading src classes s
+  pub some : s .kind ≡ 0 → ⊥
+  pub inline : s .kind ≡ Kind.NEWLINE → ⊥
+  pub no-group : s .kind ≡ Kind.LPAREN → ⊥
