@@ -3,3 +3,4 @@ pub mod Groups
 pub mod Lines
 pub mod Items
 pub mod Sections
+pub mod Hashes
