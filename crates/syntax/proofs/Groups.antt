@@ -82,7 +82,7 @@ brackets-most k n = go (eqb k Kind.LPAREN) (eqb k Kind.RPAREN)
     go false false = omega arith
 
 -- A leaf that is seen lies within the source.
-held-within : (src : List ℕ) (x : Seen) → Held src x → (x .kind ≡ 0 → ⊥) → x .end ≤ length src
+pub held-within : (src : List ℕ) (x : Seen) → Held src x → (x .kind ≡ 0 → ⊥) → x .end ≤ length src
 unfolding Held
 held-within src x h z = omega (arith, h z .0, h z .1, length-drop (x .start) (take (x .end) src), length-take (x .end) src)
 

@@ -106,6 +106,10 @@ group-rowed src x = record { tree = λ ts. go ts; errs = λ ts. refl }
     go [] = group-row (leaf-seen src x) 0 []
     go (t ∷ ts) = ap (leaf t) (group-row (leaf-seen src x) 0 ts)
 
+pub group-took : {src t t′ : List ℕ} {st st′ : ParserRun} {r : Run} → Takes src (group-at src (st .run .seen)) t (st .run) t′ r → st′ ≡ with-run st r
+    → Took src (silent (group-at src (st .run .seen))) t st t′ st′
+group-took {src} {t} {t′} {st} {st′} {r} y s = took (group-rowed src (st .run .seen)) src t t′ st st′ r (record { tree = y .tree; rest = y .rest; held = y .held }) s
+
 module _ {src : List ℕ} (n : ℕ) where
   -- A closed group has no node.
   pub hash-group : {t o e t₁ t₂ : List ℕ} {st st₁ st₂ : ParserRun} {r : Run} {b : Bool} → Took src hash-front t st t₁ st₁
@@ -116,7 +120,7 @@ module _ {src : List ℕ} (n : ℕ) where
       let ts : List Leaf = unread src (st .run .seen) in
       let p : Reader = silent (group-at src (st₁ .run .seen)) in
       let a : Got = hash-front ts in
-      let k : Took src p t₁ st₁ t₂ st₂ = took (group-rowed src (st₁ .run .seen)) src t₁ t₂ st₁ st₂ r (record { tree = y .tree; rest = y .rest; held = y .held }) s in
+      let k : Took src p t₁ st₁ t₂ st₂ = group-took y s in
       let u : control-line n relexed (a .rest) ≡ record { node-kind = none; got = p (a .rest) } = rw (x .reads o e .gives .rest) at (closed-at src (st₁ .run .seen) n relexed q i) in
       reads-is (reads-then (x .reads o e) (k .reads o e)) (hash-shut n ts ∙ ap (shut (λ c. a .tree ▹ c)) u
       ∙ ap (λ es. record { tree = a .tree ▹ p (a .rest) .tree; errs = es ++ []; rest = p (a .rest) .rest }) (sym (front-errs ts)))

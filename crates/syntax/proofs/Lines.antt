@@ -22,7 +22,7 @@ use Rattle.parser_run.proofs.Parts.{is-tested}
 use Rattle.syntax.specs.Group.{group-at, none-met, closed, nodeless}
 
 -- A group has no node exactly if it closes,
-group-closed : (g : Got) → nodeless (lined group-kind g) ≡ closed g
+pub group-closed : (g : Got) → nodeless (lined group-kind g) ≡ closed g
 group-closed g = go (g .errs)
   where
     go : (es : List Err) → nodeless (lined group-kind (record { tree = g .tree; errs = es; rest = g .rest })) ≡ none-met es
@@ -54,7 +54,7 @@ module _ (src : List ℕ) (x : Seen) (n : ℕ) (again : List Leaf → List Leaf)
   abbrev line : Line
   line = control-line n again (unread src x)
 
-  at-lparen : x .kind ≡ Kind.LPAREN → line ≡ lined group-kind (group-at src x (unread src x))
+  pub at-lparen : x .kind ≡ Kind.LPAREN → line ≡ lined group-kind (group-at src x (unread src x))
   at-lparen k = rw (one-seen src x (λ e. omega arith)) (line-group n again (leaf-seen src x) (rw k refl) (rw k refl) _)
 
   pub is-group : {b : Bool} → x .kind ≡ Kind.LPAREN → b ≡ closed (group-at src x (unread src x)) → b ≡ nodeless line

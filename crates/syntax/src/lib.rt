@@ -1,3 +1,4 @@
 // The directives (`syntax.rs`).
 pub mod group;
 pub mod line;
+pub mod section;
