@@ -1,5 +1,5 @@
 -- Item after item: one that is read by `item`, and text lines.
-use Prim.Native.Nat.{ℕ, _+_, _<_}
+use Prim.Native.Nat.{ℕ, _<_}
 use mathlib.Core.Path.{_≡_, refl, ap, sym, _∙_}
 use mathlib.Core.Bool.{Bool, true, false}
 use mathlib.Core.List.{List, [], _∷_, _++_, append-assoc, append-nil}
@@ -11,6 +11,7 @@ use Rattle.definition.specs.Tree.{Leaf, stop, row, _▹_, bytes}
 use Rattle.definition.specs.Parser.{trivia, while, after, peek, Got, push, Reader, _then_}
 use Rattle.definition.specs.Syntax.{item, relexed}
 use Rattle.theorems.specs.Placed.{Placed}
+use Rattle.theorems.specs.LeavesFrom.{leaves-from}
 use Rattle.theorems.specs.Height.{height}
 use Rattle.theorems.specs.TextLines.{Text, push-row, Lines}
 use Rattle.theorems.proofs.LeavesFrom.{leaves-lies}
@@ -25,12 +26,12 @@ use Rattle.tree.specs.declared.Pen.{Pen}
 use Rattle.parser.specs.declared.Seen.{Seen}
 use Rattle.parser.specs.declared.Run.{Run}
 use Rattle.text_lines.specs.Lines.{Lined}
-use Rattle.parser.specs.Rest.{unread, Held}
+use Rattle.parser.specs.Rest.{leaf-seen, unread, Held}
 use Rattle.parser.proofs.Taking.{none-seen, one-seen}
 use Rattle.parser_run.specs.declared.ParserRun.{ParserRun}
-use Rattle.parser_run.specs.Reads.{Stand, stand, with-run, unread-at, Reads}
+use Rattle.parser_run.specs.Reads.{Stand, stand, with-run, Reads}
 use Rattle.parser_run.proofs.Laws.{Rowed, took}
-use Rattle.file.specs.Advance.{items-of, Advances}
+use Rattle.file.specs.Advance.{Fitting, items-of, Advances}
 
 -- What is seen lies where it starts.
 pub seen-lies : (src : List ℕ) (s : Seen) → Held src s → Placed (s .start) (unread src s)
@@ -43,21 +44,32 @@ seen-lies src s h = go (eqb (s .kind) 0) refl
         let k = h (eqb-false _ _ e) in
         rw (one-seen src s (eqb-false _ _ e)) (refl, omega arith, rw (k .0) (leaves-lies src (s .end) (s .angle)))
 
-module _ {src : List ℕ} {m m′ : Stand} (h : Held src (m .state .run .seen)) where
-  -- One item.
-  pub advance-item : (t : Leaf) (ts : List Leaf) → unread-at src m ≡ t ∷ ts → Reads src (item (length src) relexed) m m′ → Advances src m m′
-  advance-item t ts e x =
-      let p : Placed (m .state .run .seen .start) (t ∷ ts) = rw e at (seen-lies src (m .state .run .seen) h) in
-      record {
-        part = item (length src) relexed;
-        reads = x;
-        others = rw e (items-one (length src) relexed recut-relexed _ t ts p);
-        fitting = rw e (record {
-          tiles = item-retold (length src) relexed recut-relexed (t ∷ ts) .tiles;
-          low = height-item (length src) relexed (t ∷ ts);
-          fewer = item-fewer (length src) relexed recut-relexed _ t ts p;
-        });
-      }
+-- One item, from a leaf on that is seen.
+module _ (src : List ℕ) (s : Seen) (h : Held src s) (z : s .kind ≡ 0 → ⊥) where
+  abbrev t₀ : Leaf
+  t₀ = leaf-seen src s
+
+  abbrev ts₀ : List Leaf
+  ts₀ = leaves-from src (s .end) (s .angle)
+
+  lies-first : Placed (s .start) (t₀ ∷ ts₀)
+  lies-first = rw (one-seen src s z) at (seen-lies src s h)
+
+  pub item-fitting : Fitting (item (length src) relexed (unread src s)) (unread src s)
+  item-fitting = rw (one-seen src s z) (record {
+    tiles = item-retold (length src) relexed recut-relexed (t₀ ∷ ts₀) .tiles;
+    low = height-item (length src) relexed (t₀ ∷ ts₀);
+    fewer = item-fewer (length src) relexed recut-relexed _ t₀ ts₀ lies-first;
+  })
+
+  item-others : items-of src (unread src s) ≡ (item (length src) relexed then items-of src) (unread src s)
+  item-others = rw (one-seen src s z) (items-one (length src) relexed recut-relexed _ t₀ ts₀ lies-first)
+
+pub advance-item : {src : List ℕ} {m m′ : Stand} → Held src (m .state .run .seen) → (m .state .run .seen .kind ≡ 0 → ⊥) → Reads src (item (length src) relexed) m m′
+    → Advances src m m′
+advance-item {src} {m} h z x =
+    let s : Seen = m .state .run .seen in
+    record { part = item (length src) relexed; reads = x; others = item-others src s h z; fitting = item-fitting src s h z }
 
 -- A row of leaves has no node.
 height-row : (us : List Leaf) → height (row us) ≡ 0
