@@ -6,5 +6,6 @@ pub mod Tables
 pub mod Parts
 pub mod Sets
 pub mod Rows
+pub mod Stretches
 pub mod Utf8s
 pub mod Ascii
