@@ -3,8 +3,8 @@ use Prim.Native.Nat.{ℕ, _+_, _-_, _≤_}
 use mathlib.Core.Path.{_≡_, refl, ap, sym, _∙_}
 use mathlib.Core.List.{List, [], _∷_, _++_, append-assoc}
 use native.Mathlib.Omega.{arith}
-use lib.ListN.{length, getD, set, replicate, length-append}
-use lib.Seq.{getD-append-add}
+use lib.ListN.{length, drop, getD, set, replicate, length-append}
+use lib.Seq.{getD-append-add, sets, sets-eq}
 use Rattle.definition.specs.Tree.{Width}
 use Rattle.definition.specs.LineMap.{LineCol, get-line-and-col}
 use Rattle.definition.specs.Error.{Err, error-numbers}
@@ -51,6 +51,16 @@ module _ (lines old : List ℕ) where
       let e : length (error-numbers old es) ≡ length (error-numbers lines es) = length-errors old es ∙ sym (length-errors lines es) in
       resolved-row [] (replicate (room - length (error-numbers old es)) 0) 0 es refl
       ∙ ap (λ n. error-numbers lines es ++ replicate (room - n) 0) e
+
+  -- And whatever stands behind them.
+  pub resolved-written : (es : List Err) (t : List ℕ) → length (error-numbers old es) ≤ length t
+      → resolved lines (sets t 0 (error-numbers old es)) 0 (length es) ≡ sets t 0 (error-numbers lines es)
+  resolved-written es t h =
+      let e : length (error-numbers old es) ≡ length (error-numbers lines es) = length-errors old es ∙ sym (length-errors lines es) in
+      ap (λ x. resolved lines x 0 (length es)) (sets-eq (error-numbers old es) t 0 (omega arith))
+      ∙ resolved-row [] (drop (0 + length (error-numbers old es)) t) 0 es refl
+      ∙ ap (λ n. error-numbers lines es ++ drop (0 + n) t) e
+      ∙ sym (sets-eq (error-numbers lines es) t 0 (omega arith))
 
 -- Errors added to a table that was all zeros, and then filled in, if they fit.
 pub cleared-resolved : (lines : List ℕ) (room : ℕ) (es : List Err) → length (error-numbers lines es) ≤ room

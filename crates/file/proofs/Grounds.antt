@@ -18,7 +18,7 @@ use Rattle.parser_run.specs.Reads.{Stand, writer-at, unread-at, Gives}
 use Rattle.file.specs.Ground.{Grounded}
 use Rattle.file.specs.Advance.{Fitting}
 
-front-lies : (a : ℕ) (us ts : List Leaf) → Placed a (us ++ ts) → Placed a us
+pub front-lies : (a : ℕ) (us ts : List Leaf) → Placed a (us ++ ts) → Placed a us
 unfolding Placed
 front-lies a [] ts p = tt
 front-lies a (u ∷ us) ts p = (p .0, p .1, front-lies (a + long u) us ts (p .2))

@@ -4,16 +4,19 @@ use native.Mathlib.Omega.{arith}
 use mathlib.Core.Path.{_≡_, refl, ap, _∙_}
 use mathlib.Core.List.{List}
 use mir.Val.{Fits}
-use mir.Syntax.{w32}
-use lib.ListN.{length, drop, set}
+use mir.Syntax.{w8, w32}
+use lib.ListN.{length, drop, getD, set}
 use lib.Seq.{sets}
 use Rattle.definition.specs.Newline.{chars}
 use Rattle.definition.specs.LineMap.{line-starts}
 use Rattle.definition.specs.Calls.{longest-source}
 use Rattle.table.specs.Fills.{Written}
 use Rattle.text.specs.Newline.{newline-len}
+use Rattle.text.specs.Stretch.{Passing}
 use Rattle.text.proofs.Newlines.{newline-within}
 use Rattle.table.proofs.Tables.{Writing, write-more, write-none, write-long}
+use Rattle.line_map.specs.Quiet.{quiet-look}
+use Rattle.line_map.proofs.Quiets.{quiet-over}
 use Rattle.line_map.proofs.Ends.{ends-from, none-behind, none-here, one-here}
 
 -- From the table t₀, in which the first line starts, n starts are written, and i bytes are read.
@@ -28,8 +31,13 @@ start src t = record { within = omega arith; few = omega arith; writing = record
 
 module _ (src t₀ t : List ℕ) (n i : ℕ) (k : Filling src t₀ t n i) where
   module _ (w : ℕ) (h : i < length src) (e : w ≡ newline-len (chars (drop i src))) where
-    pub other : w ≡ 0 → Filling src t₀ t n (i + 1)
-    other z = record { within = omega arith; few = omega arith; writing = rw (← none-here src i w h e z) (k .writing) }
+    -- No newline stands here, nor up to a place.
+    pub other : ((j : ℕ) → Fits w8 (getD src j 0)) → w ≡ 0 → (to : ℕ) → Passing quiet-look src (i + 1) to → Filling src t₀ t n to
+    other known z to p = record {
+      within = p .within;
+      few = omega (arith, p .forward);
+      writing = rw (← quiet-over src known (i + 1) to p, ← none-here src i w h e z) (k .writing);
+    }
 
     module _ (z : w ≡ 0 → ⊥) where
       pub further : i + w ≤ length src

@@ -1,3 +1,4 @@
 pub mod Ends
 pub mod Filling
 pub mod Finding
+pub mod Quiets

@@ -4,15 +4,85 @@ use text::newline;
 use text::refusal::Refusal;
 use text::source;
 ghost use mathlib.Core.Path.{_≡_};
-ghost use Prim.Native.Nat.{_≤_};
+ghost use Prim.Native.Nat.{_+_, _≤_, min};
 ghost use lib.ListN.{length};
 ghost use Rattle.definition.specs.LineMap.{line-starts};
 ghost use Rattle.definition.specs.Calls.{longest-source, building-lines, looking-up};
 ghost use Rattle.line_map.specs.Lookup.{looked, Looks-up};
+ghost use Rattle.line_map.specs.Quiet.{quiet-look};
 ghost use Rattle.table.specs.Fills.{Fills, Written};
+ghost use Rattle.text.specs.Stretch.{gathered, step-passes, Passing};
+
+// The smaller of two bytes.
+fn smaller(a: u8, b: u8) -> u8
+    ensures { λ r. ⌜ r ≡ min a b ⌝ }
+{
+    if a < b {
+        return a;
+    }
+    b
+}
+
+// Bytes below this may begin a newline; no other byte does.
+const QUIET: u8 = 14;
+
+// How many bytes are looked at together.
+const STEP: usize = 16;
+
+// The smallest of the STEP bytes at a place.
+fn smallest(src: &[u8], at: usize) -> u8
+    requires { ⌜ at + quiet-look .size ≤ length (now src) ⌝ }
+    ensures { λ r. ⌜ r ≡ gathered quiet-look (quiet-look .size) at (now (src .entry)) ⌝ }
+{
+    let mut m: u8 = 255;
+    let mut k: usize = 0;
+    while k < STEP {
+        m = smaller(m, src[at + k]);
+        k += 1;
+    }
+    m
+}
+
+// Whether STEP bytes stand at a place of which none begins a newline.
+fn all_quiet(src: &[u8], at: usize) -> bool
+    requires { ⌜ at ≤ length (now src) ⌝ }
+    ensures { λ r. ⌜ r ≡ step-passes quiet-look (now (src .entry)) at ⌝ }
+{
+    if src.len() - at < STEP {
+        return false;
+    }
+    QUIET <= smallest(src, at)
+}
+
+// Behind the steps at a place in which no newline begins.
+fn pass_steps(src: &[u8], at: usize) -> usize
+    requires { ⌜ at ≤ length (now src) ⌝ }
+    ensures { λ r. ⌜ Passing quiet-look (now (src .entry)) at r ⌝ }
+{
+    let mut i = at;
+    while all_quiet(src, i) {
+        i += STEP;
+    }
+    i
+}
+
+// Behind the bytes at a place that begin no newline, up to one that may.
+fn next_low(src: &[u8], at: usize) -> usize
+    requires { ⌜ at ≤ length (now src) ⌝ }
+    ensures { λ r. ⌜ Passing quiet-look (now (src .entry)) at r ⌝ }
+{
+    let mut i = pass_steps(src, at);
+    while i < src.len() {
+        if src[i] < QUIET {
+            return i;
+        }
+        i += 1;
+    }
+    i
+}
 
 // Writes the line starts into a table, as far as it goes, and counts them all.
-fn fill(src: &[u8], lines: &mut [u32]) -> usize
+pub fn fill(src: &[u8], lines: &mut [u32]) -> usize
     requires { ⌜ length (now src) ≤ longest-source ⌝ }
     ensures { λ r. ⌜ Written (line-starts (now (src .entry))) (now (lines .entry)) r (now (lines .exit)) ⌝ }
 {
@@ -22,7 +92,7 @@ fn fill(src: &[u8], lines: &mut [u32]) -> usize
     while i < src.len() {
         let w = newline::newline_at(src, i);
         if w == 0 {
-            i += 1;
+            i = next_low(src, i + 1);
         } else {
             i += w;
             table::put(lines, n, i as u32);

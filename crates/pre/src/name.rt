@@ -1,21 +1,18 @@
 // The keyword `defined`.
 use syntax_kind::kind::Kind;
 ghost use mathlib.Core.Path.{_≡_};
-ghost use mathlib.Core.Bool.{_||_};
 ghost use Prim.Native.Nat.{_≤_, _<_, _-_};
-ghost use lib.Dec.{eqb};
 ghost use lib.ListN.{length, drop, take};
-ghost use Rattle.definition.specs.Text.{byte};
+ghost use Rattle.definition.specs.Text.{same};
+ghost use Rattle.definition.specs.Glue.{defined};
+ghost use Rattle.definition.specs.Unescaped.{unescaped};
 ghost use Rattle.theorems.specs.Walk.{name-kind};
 
-// Whether a text that begins with b may be `defined`.
-fn may_spell(b: u8) -> bool
-    ensures { λ r. ⌜ r ≡ (eqb b (byte "d") || eqb b (byte "\\")) ⌝ }
+// Whether a text is `defined`, unescaped. It names a literal, which is made anew in each call, so it stands by itself.
+fn is_defined(text: &[u8]) -> bool
+    ensures { λ r. ⌜ r ≡ same (unescaped (now (text .entry))) defined ⌝ }
 {
-    if b == b'd' {
-        return true;
-    }
-    b == b'\\'
+    unescaped::eq(text, b"defined")
 }
 
 // The kind of a token, `defined` told from other identifiers.
@@ -24,11 +21,8 @@ pub fn name(src: &[u8], at: usize, end: usize, kind: u8) -> u8
     ensures { λ r. ⌜ r ≡ name-kind kind (take (end - at) (drop at (now (src .entry)))) ⌝ }
 {
     if kind == Kind::IDENT_KW {
-        if may_spell(src[at]) {
-            if unescaped::eq(&src[at..end], b"defined") {
-                return Kind::DEFINED;
-            }
-            return Kind::IDENT_KW;
+        if is_defined(&src[at..end]) {
+            return Kind::DEFINED;
         }
         return Kind::IDENT_KW;
     }

@@ -5,13 +5,17 @@ use mathlib.Core.Bool.{true, false}
 use mathlib.Core.List.{List, [], _∷_}
 use lib.ListN.{length}
 use borrow.Author.Tests.{lt-ltb, le-ltb, ne-eqb}
-use Rattle.definition.specs.Calls.{Check, Refusal, Full, full-reading, entries-of, errors-of, filled, refusal, too-many, too-many-concats, short-table, source-checks, reading-checks, outcome, reading}
-use Rattle.theorems.proofs.Refusals.{reading-refuses, reading-zero-entries, reading-zero-errors, reading-zero-lines}
+use Rattle.definition.specs.Tree.{Forest, entries, entry-numbers, body-concats}
+use Rattle.definition.specs.Syntax.{parse-define-body}
+use Rattle.definition.specs.Calls.{Check, Refusal, Full, full-reading, entries-of, errors-of, padded, filled, refusal, too-many, too-many-concats, short-table, source-checks, reading-checks, outcome, reading, reading-body}
+use Rattle.theorems.proofs.Refusals.{reading-refuses, reading-zero-entries, reading-zero-errors, reading-zero-lines, body-refuses, body-zeros}
 use Rattle.theorems.proofs.Demand3.{demand3}
+use Rattle.text.specs.declared.Counted.{Counted}
+use Rattle.table.specs.Fills.{Fills}
 use Rattle.table.proofs.Tables.{zeros}
 use Rattle.text.proofs.Refusals.{source-refused, source-passed}
 use Rattle.reading.specs.declared.Reading.{Reading}
-use Rattle.reading.specs.Promise.{left-by, Whole, Reads-source}
+use Rattle.reading.specs.Promise.{left-by, Whole, Reads-source, body-checks, Reads-body}
 
 -- What a reading checks after its source.
 abbrev later-checks : Full → ℕ → ℕ → ℕ → List Check
@@ -93,3 +97,58 @@ module _ (src : List ℕ) (a b c : ℕ) where
             pub not-refused : length (full .lines) ≤ c → refusal (reading-checks src full a b c) ≡ 0
             unfolding refusal
             not-refused k = passed ∙ rw (h, le-ltb a (length (entries-of full)) i, le-ltb b (length (errors-of full)) j, le-ltb c (length (full .lines)) k) refl
+
+-- The same of a define body.
+module _ (src : List ℕ) (a : ℕ) where
+  abbrev tree : Forest
+  tree = parse-define-body src
+
+  abbrev numbers : List ℕ
+  numbers = entry-numbers (entries 0 0 tree)
+
+  pub body-promised : (r : Counted) (t : List ℕ) → Fills (reading-body src a) r t → Reads-body src a r t
+  unfolding reading-body filled
+  body-promised r t f =
+      record {
+        refusal = rw (f .refusal-is) (body-refuses src a);
+        zero-entries = rw (f .refusal-is, f .count-is, f .table-is) (body-zeros src a);
+        whole = λ h.
+            let k : refusal (body-checks src a) ≡ 0 = sym (f .refusal-is) ∙ h in
+            record { entry-count = f .count-is ∙ rw k refl; entry-table = f .table-is ∙ rw k refl };
+        outcome = f;
+      }
+
+  -- Refused by k, with zeros,
+  pub body-refused-by : (k : ℕ) (r : Counted) (t : List ℕ) → (k ≡ 0 → ⊥) → refusal (body-checks src a) ≡ k → r ≡ record { refusal = k; count = 0 } → t ≡ zeros a
+      → Reads-body src a r t
+  unfolding reading-body filled
+  body-refused-by k r t d e i q =
+      rw i (body-promised _ t (record { refusal-is = sym e; count-is = rw (e, ne-eqb k 0 d) refl; table-is = rw (e, ne-eqb k 0 d) q }))
+
+  -- or accepted.
+  pub body-accepted-by : (n : ℕ) (r : Counted) (t : List ℕ) → refusal (body-checks src a) ≡ 0 → n ≡ length (entries 0 0 tree) → r ≡ record { refusal = 0; count = n }
+      → t ≡ padded numbers a → Reads-body src a r t
+  unfolding reading-body filled
+  body-accepted-by n r t e c i q = rw i (body-promised _ t (record { refusal-is = sym e; count-is = rw e c; table-is = rw e q }))
+
+  -- The refusals after those of the source, in their order.
+  module _ (r : ℕ) (e : r ≡ refusal (source-checks src)) where
+    pub body-refused-source : (r ≡ 0 → ⊥) → refusal (body-checks src a) ≡ r
+    body-refused-source d = source-refused src r e _ d
+
+    module _ (z : r ≡ 0) where
+      body-passed : refusal (body-checks src a) ≡ refusal (too-many-concats (body-concats tree) ∷ short-table Refusal.ENTRIES numbers a ∷ [])
+      body-passed = source-passed src r e _ z
+
+      pub body-refused-concats : too-many (body-concats tree) ≡ true → refusal (body-checks src a) ≡ Refusal.CONCATS
+      unfolding refusal
+      body-refused-concats h = body-passed ∙ rw h refl
+
+      module _ (h : too-many (body-concats tree) ≡ false) where
+        pub body-refused-entries : a < length numbers → refusal (body-checks src a) ≡ Refusal.ENTRIES
+        unfolding refusal
+        body-refused-entries i = body-passed ∙ rw (h, lt-ltb a (length numbers) i) refl
+
+        pub body-not-refused : length numbers ≤ a → refusal (body-checks src a) ≡ 0
+        unfolding refusal
+        body-not-refused i = body-passed ∙ rw (h, le-ltb a (length numbers) i) refl

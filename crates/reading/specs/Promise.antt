@@ -1,12 +1,16 @@
 -- What the reading of a source promises: the three demands, said of its answer and of the tables as it left them.
 use Prim.Native.Nat.{ℕ}
 use mathlib.Core.Path.{_≡_}
-use mathlib.Core.List.{List}
+use mathlib.Core.List.{List, [], _∷_, _++_}
 use lib.ListN.{length}
-use Rattle.definition.specs.Calls.{Full, full-reading, entries-of, errors-of, padded, reading-checks, reading}
+use Rattle.definition.specs.Tree.{Forest, entries, entry-numbers, body-concats}
+use Rattle.definition.specs.Syntax.{parse-define-body}
+use Rattle.definition.specs.Calls.{Check, Refusal, Full, full-reading, entries-of, errors-of, padded, source-checks, too-many-concats, short-table, reading-checks, reading, reading-body}
 use Rattle.definition.specs.Calls as definition
 use Rattle.theorems.specs.Refusals.{Refuses, Zeros}
 use Rattle.theorems.specs.Demand3.{Demand3}
+use Rattle.text.specs.declared.Counted.{Counted}
+use Rattle.table.specs.Fills.{Fills}
 use Rattle.reading.specs.declared.Reading.{Reading}
 
 -- The answer and the tables, as the definition has them.
@@ -44,3 +48,25 @@ pub record Reads-source (src : List ℕ) (entry-room error-room line-room : ℕ)
   pub outcome : left-by r entries errors lines ≡ reading src entry-room error-room line-room
   -- Demand 3, of an accepted source.
   pub demand3 : r .refusal ≡ 0 → Demand3 src (left-by r entries errors lines)
+
+-- What a body is refused for,
+abbrev pub body-checks : List ℕ → ℕ → List Check
+body-checks src room =
+    let tree = parse-define-body src in
+    source-checks src ++ (too-many-concats (body-concats tree) ∷ short-table Refusal.ENTRIES (entry-numbers (entries 0 0 tree)) room ∷ [])
+
+-- and its tree: the count, and in the table its numbers and then zeros.
+pub record WholeBody (tree : Forest) (room : ℕ) (r : Counted) (table : List ℕ) : Type 0 where
+  pub entry-count : r .count ≡ length (entries 0 0 tree)
+  pub entry-table : table ≡ padded (entry-numbers (entries 0 0 tree)) room
+
+-- A reading of src as a define body with a table of this length answered r and left this table.
+pub record Reads-body (src : List ℕ) (room : ℕ) (r : Counted) (table : List ℕ) : Type 0 where
+  -- Demand 1: a refusal of 01 is given exactly if its condition holds and no earlier one does;
+  pub refusal : Refuses (r .refusal) (body-checks src room)
+  -- it has a count of 0 and puts zeros in the table;
+  pub zero-entries : Zeros (r .refusal) (r .count) room table
+  -- else the answer is the body's tree.
+  pub whole : r .refusal ≡ 0 → WholeBody (parse-define-body src) room r table
+  -- Demand 2: number, count and every number of the table are those of the definition.
+  pub outcome : Fills (reading-body src room) r table

@@ -1,2 +1,3 @@
 pub mod Newline
+pub mod Stretch
 pub mod Utf8

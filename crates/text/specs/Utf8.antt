@@ -1,14 +1,14 @@
 -- The automaton of the UTF-8 check: which bytes each of its states still wants, and what its answer says in the words of the definition.
-use Prim.Native.Nat.{ℕ, zero, suc, _+_, _/_, _≤_}
+use Prim.Native.Nat.{ℕ, max}
 use mathlib.Core.Path.{_≡_}
-use mathlib.Core.Bool.{Bool, true, false, _&&_}
+use mathlib.Core.Bool.{Bool, true, false}
 use mathlib.Core.List.{List, [], _∷_}
 use mathlib.Core.Option.{Option, none, some}
-use lib.Dec.{leb, ltb}
-use lib.ListN.{length, getD}
+use lib.Dec.{ltb}
 use Rattle.definition.specs.Text.{if_then_else_}
 use Rattle.definition.specs.Utf8.{Span, _⋯_, within, char-forms, follow, nothing, cut, broken}
 use Rattle.definition.specs.Utf8 as definition
+use Rattle.text.specs.Stretch.{Stretch, Look}
 use Rattle.text.specs.declared.utf8.State.{State}
 use Rattle.text.specs.declared.utf8.State.the-variants.{Start, Tail1, Tail2, Tail3, AfterE0, AfterED, AfterF0, AfterF4}
 use Rattle.text.specs.declared.utf8.Next.{Next}
@@ -45,18 +45,9 @@ told Nothing = nothing
 told Cut = cut
 told Broken = broken
 
--- A byte is ASCII below 128.
-pub record High (b r : ℕ) : Type 0 where
-  pub is : r ≡ b / 128
-  pub small : r ≤ 1
-
--- So many bytes from a place on are ASCII.
-unfoldable pub low-from : ℕ → ℕ → List ℕ → Bool
-low-from zero at s = true
-low-from (suc n) at s = ltb (getD s at 0) 128 && low-from n (at + 1) s
-
-unfoldable pub eight-low : List ℕ → ℕ → Bool
-eight-low s at = leb (at + 8) (length s) && low-from 8 at s
+-- The largest of 64 bytes: all of them are ASCII if it is.
+abbrev pub ascii-look : Look
+ascii-look = record { size = 64; none = 0; both = max; test = λ b. ltb b 128 }
 
 -- Any character may follow.
 abbrev pub starts : State → Bool
@@ -69,6 +60,6 @@ starts AfterED = false
 starts AfterF0 = false
 starts AfterF4 = false
 
--- How many bytes of ASCII may be passed over.
-unfoldable pub passes : State → List ℕ → ℕ → ℕ
-passes q s at = if starts q && eight-low s at then 8 else 0
+-- All that is passed over in a state is ASCII, where any character may follow.
+abbrev pub Passes : State → List ℕ → ℕ → ℕ → Type 0
+Passes q = Stretch (λ b. (starts q ≡ true) × (ltb b 128 ≡ true))

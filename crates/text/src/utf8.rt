@@ -1,9 +1,12 @@
 // The UTF-8 check (RFC 3629, section 4): one pass, one state.
 ghost use mathlib.Core.Path.{_≡_};
 ghost use mathlib.Core.List.{[]};
+ghost use Prim.Native.Nat.{_+_, _≤_, max};
+ghost use lib.ListN.{length};
 ghost use Rattle.definition.specs.Text.{if_then_else_, none, some};
 ghost use Rattle.definition.specs.Utf8.{_⋯_, within, char-forms, follow, left};
-ghost use Rattle.text.specs.Utf8.{wants, next-wants, wanted-after, told, High, eight-low, starts, passes};
+ghost use Rattle.text.specs.Stretch.{gathered, step-passes, Passing};
+ghost use Rattle.text.specs.Utf8.{wants, next-wants, wanted-after, told, starts, ascii-look, Passes};
 
 // What is left of a source when whole characters are taken off its front.
 pub enum Left {
@@ -96,31 +99,69 @@ fn end(s: State) -> Left
     }
 }
 
-// Whether a byte is no ASCII: 1 if so.
-fn high(b: u8) -> u32
-    ensures { λ r. ⌜ High b r ⌝ }
+// The larger of two bytes.
+fn larger(a: u8, b: u8) -> u8
+    ensures { λ r. ⌜ r ≡ max a b ⌝ }
 {
-    (b / 128) as u32
+    if a < b {
+        return b;
+    }
+    a
 }
 
-// Whether eight bytes of ASCII stand at a place.
-fn eight_ascii(src: &[u8], at: usize) -> bool
-    ensures { λ r. ⌜ r ≡ eight-low (now (src .entry)) at ⌝ }
+// How many bytes are looked at together.
+const STEP: usize = 64;
+
+// The largest of the STEP bytes at a place.
+fn largest(src: &[u8], at: usize) -> u8
+    requires { ⌜ at + ascii-look .size ≤ length (now src) ⌝ }
+    ensures { λ r. ⌜ r ≡ gathered ascii-look (ascii-look .size) at (now (src .entry)) ⌝ }
 {
-    if src.len() <= at {
+    let mut m: u8 = 0;
+    let mut k: usize = 0;
+    while k < STEP {
+        m = larger(m, src[at + k]);
+        k += 1;
+    }
+    m
+}
+
+// Whether STEP bytes of ASCII stand at a place.
+fn all_ascii(src: &[u8], at: usize) -> bool
+    requires { ⌜ at ≤ length (now src) ⌝ }
+    ensures { λ r. ⌜ r ≡ step-passes ascii-look (now (src .entry)) at ⌝ }
+{
+    if src.len() - at < STEP {
         return false;
     }
-    if src.len() - at < 8 {
-        return false;
+    largest(src, at) < 128
+}
+
+// Behind the ASCII at a place, as far as it goes in whole steps.
+fn pass_steps(src: &[u8], at: usize) -> usize
+    requires { ⌜ at ≤ length (now src) ⌝ }
+    ensures { λ r. ⌜ Passing ascii-look (now (src .entry)) at r ⌝ }
+{
+    let mut i = at;
+    while all_ascii(src, i) {
+        i += STEP;
     }
-    let h7 = high(src[at + 7]);
-    let h6 = high(src[at + 6]) + h7;
-    let h5 = high(src[at + 5]) + h6;
-    let h4 = high(src[at + 4]) + h5;
-    let h3 = high(src[at + 3]) + h4;
-    let h2 = high(src[at + 2]) + h3;
-    let h1 = high(src[at + 1]) + h2;
-    high(src[at]) + h1 == 0
+    i
+}
+
+// Behind the ASCII at a place.
+fn next_high(src: &[u8], at: usize) -> usize
+    requires { ⌜ at ≤ length (now src) ⌝ }
+    ensures { λ r. ⌜ Passing ascii-look (now (src .entry)) at r ⌝ }
+{
+    let mut i = pass_steps(src, at);
+    while i < src.len() {
+        if 128 <= src[i] {
+            return i;
+        }
+        i += 1;
+    }
+    i
 }
 
 // Whether any character may follow.
@@ -139,17 +180,15 @@ fn is_start(s: State) -> bool
     }
 }
 
-// How many bytes of ASCII may be passed over in a state: eight or none.
+// Behind the ASCII at a place where any character may follow; elsewhere the place itself.
 fn passed(s: State, src: &[u8], at: usize) -> usize
-    ensures { λ r. ⌜ r ≡ passes s (now (src .entry)) at ⌝ }
+    requires { ⌜ at ≤ length (now src) ⌝ }
+    ensures { λ r. ⌜ Passes s (now (src .entry)) at r ⌝ }
 {
     if is_start(s) {
-        if eight_ascii(src, at) {
-            return 8;
-        }
-        return 0;
+        return next_high(src, at);
     }
-    0
+    at
 }
 
 // Whether the bytes are UTF-8, and if not, why.
@@ -159,19 +198,14 @@ pub fn check(src: &[u8]) -> Left
     let mut s = State::Start;
     let mut i = 0;
     while i < src.len() {
-        let w = passed(s, src, i);
-        if 0 < w {
-            i += w;
-        } else {
-            let b = src[i];
-            match step(s, b) {
-                Next::To(t) => {
-                    s = t;
-                    i += 1;
-                }
-                Next::Unwanted => {
-                    return Left::Broken;
-                }
+        let b = src[i];
+        match step(s, b) {
+            Next::To(t) => {
+                s = t;
+                i = passed(t, src, i + 1);
+            }
+            Next::Unwanted => {
+                return Left::Broken;
             }
         }
     }

@@ -1,18 +1,20 @@
--- The loop that compares a text, unescaped, with a word, byte by byte.
+-- Comparing a text, unescaped, with a word: the loop that goes byte by byte, and the quick test before it.
 use Prim.Native.Nat.{ℕ, _+_, _≤_, _<_}
 use native.Mathlib.Decide.{decLt}
 use native.Mathlib.Numerals.{add-one}
 use native.Mathlib.Omega.{arith}
 use mathlib.Core.Path.{_≡_, refl, sym, ap, _∙_}
-use mathlib.Core.Bool.{false}
-use mathlib.Core.List.{List}
-use lib.Dec.{eqb}
+use mathlib.Core.Bool.{Bool, true, false, and-false, true≢false}
+use mathlib.Core.List.{List, [], _∷_}
+use lib.Dec.{eqb, ltb}
 use lib.ListN.{length, drop, getD, drop-of-length-le}
 use lib.Seq.{drop-cons}
-use borrow.Author.Tests.{eq-eqb, ne-eqb}
-use Rattle.definition.specs.Text.{same}
+use borrow.Author.Tests.{eq-eqb, ne-eqb, le-ltb, ltb-true, ltb-false}
+use Rattle.definition.specs.Text.{if_then_else_, byte, same}
 use Rattle.definition.specs.Unescaped.{unescaped}
+use Rattle.theorems.proofs.Lexing.Unescapes.{backslash, unescaped-other, unescaped-fewer}
 use Rattle.unescaped.specs.Continuation.{continuation}
+use Rattle.unescaped.specs.MayBe.{may-be}
 use Rattle.unescaped.proofs.Continuations as continuations
 
 -- The first i bytes of a text, unescaped, are the first k of a word.
@@ -50,3 +52,38 @@ module _ (text word : List ℕ) (i k : ℕ) (g : Comparing text word i k) where
         pub differs : (getD text i 0 ≡ getD word k 0 → ⊥) → false ≡ same (unescaped text) word
         unfolding same
         differs p = sym (g .is ∙ rw (continuations.keeps text i h w e z, drop-cons word k 0 l, ne-eqb _ _ p))
+
+-- The quick test, by the first bytes of a text and a word.
+module _ (text word : List ℕ) (l : length word ≤ length text) (b : ℕ) (e : b ≡ getD text 0 0) where
+  pub may-escape : b ≡ byte "\\" → true ≡ may-be text word
+  unfolding may-be
+  may-escape q = rw (le-ltb _ _ l, ← e, eq-eqb b (byte "\\") q)
+
+  pub may-begin : (b ≡ byte "\\" → ⊥) → (x : ℕ) → x ≡ getD word 0 0 → eqb b x ≡ may-be text word
+  unfolding may-be
+  may-begin q x p = rw (le-ltb _ _ l, ← e, ne-eqb b (byte "\\") q, p)
+
+-- A text that is shorter than a word, or begins with another byte that is kept, is not the word.
+shorter : (xs ys : List ℕ) → length xs < length ys → same xs ys ≡ false
+unfolding same
+shorter xs [] h = absurd (omega arith)
+shorter [] (y ∷ ys) h = refl
+shorter (x ∷ xs) (y ∷ ys) h = rw (shorter xs ys (omega arith)) (and-false (eqb x y))
+
+begins-otherwise : (text word : List ℕ) → length word ≤ length text → backslash (getD text 0 0) ≡ false → eqb (getD text 0 0) (getD word 0 0) ≡ false
+    → same (unescaped text) word ≡ false
+unfolding same
+begins-otherwise [] [] l q e = absurd (true≢false e)
+begins-otherwise [] (y ∷ ys) l q e = absurd (omega arith)
+begins-otherwise (b ∷ bs) [] l q e = rw (unescaped-other b bs q)
+begins-otherwise (b ∷ bs) (y ∷ ys) l q e = rw (unescaped-other b bs q, e)
+
+pub never : (text word : List ℕ) (r : Bool) → r ≡ may-be text word → r ≡ false → false ≡ same (unescaped text) word
+unfolding may-be
+never text word r k z = sym (go (ltb (length text) (length word)) refl (backslash (getD text 0 0)) refl (sym k ∙ z))
+  where
+    go : (t : Bool) → ltb (length text) (length word) ≡ t → (u : Bool) → backslash (getD text 0 0) ≡ u
+        → (if t then false else if u then true else eqb (getD text 0 0) (getD word 0 0)) ≡ false → same (unescaped text) word ≡ false
+    go true p u q e = shorter (unescaped text) word (omega (arith, unescaped-fewer text, ltb-true (length text) (length word) p))
+    go false p true q e = absurd (true≢false e)
+    go false p false q e = begins-otherwise text word (ltb-false _ _ p) q e

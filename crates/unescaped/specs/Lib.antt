@@ -1,1 +1,2 @@
 pub mod Continuation
+pub mod MayBe

@@ -10,6 +10,7 @@ ghost use Rattle.definition.specs.Unescaped.{unescaped};
 ghost use Rattle.definition.specs.Calls.{unescaping};
 ghost use Rattle.table.specs.Fills.{Fills, Written};
 ghost use Rattle.unescaped.specs.Continuation.{continuation};
+ghost use Rattle.unescaped.specs.MayBe.{may-be};
 
 // How many bytes the continuation at a place has, a backslash and a newline; 0: none stands there.
 fn continuation_at(text: &[u8], at: usize) -> usize
@@ -28,8 +29,22 @@ fn continuation_at(text: &[u8], at: usize) -> usize
     w + 1
 }
 
-// Whether the text, unescaped, is the word.
-pub fn eq(text: &[u8], word: &[u8]) -> bool
+// Whether a text may be the word, unescaped, by its length and its first byte.
+fn may_be(text: &[u8], word: &[u8]) -> bool
+    ensures { λ r. ⌜ r ≡ may-be (now (text .entry)) (now (word .entry)) ⌝ }
+{
+    if text.len() < word.len() {
+        return false;
+    }
+    let b = newline::byte_at(text, 0);
+    if b == b'\\' {
+        return true;
+    }
+    b == newline::byte_at(word, 0)
+}
+
+// Whether the text, unescaped, is the word, byte by byte.
+fn eq_bytes(text: &[u8], word: &[u8]) -> bool
     ensures { λ r. ⌜ r ≡ same (unescaped (now (text .entry))) (now (word .entry)) ⌝ }
 {
     let mut i = 0;
@@ -50,6 +65,16 @@ pub fn eq(text: &[u8], word: &[u8]) -> bool
         }
     }
     k == word.len()
+}
+
+// Whether the text, unescaped, is the word.
+pub fn eq(text: &[u8], word: &[u8]) -> bool
+    ensures { λ r. ⌜ r ≡ same (unescaped (now (text .entry))) (now (word .entry)) ⌝ }
+{
+    if may_be(text, word) {
+        return eq_bytes(text, word);
+    }
+    false
 }
 
 // Writes the unescaped text into the output, as far as it goes, and counts all its bytes.

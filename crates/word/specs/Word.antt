@@ -4,6 +4,8 @@ use mathlib.Core.Path.{_≡_}
 use mathlib.Core.Bool.{Bool, false}
 use mathlib.Core.List.{List, [], _∷_, map}
 use mathlib.Core.Option.{Option, none, some}
+use Prim.Native.Char.{code}
+use Prim.Native.String.{String, [] as ε, _∷_ as _◂_}
 use Rattle.definition.specs.Text.{same, Kind}
 use Rattle.definition.specs.Unescaped.{unescaped}
 use Rattle.definition.specs.Tree.{Leaf}
@@ -14,6 +16,11 @@ use Rattle.definition.specs.Grammar.{words, rest-after}
 -- The places of the fourteen words, and the number of an unknown one.
 abbrev pub Word : record { INCLUDE : ℕ; DEFINE : ℕ; UNDEF : ℕ; LINE : ℕ; ERROR : ℕ; PRAGMA : ℕ; VERSION : ℕ; IF : ℕ; IFDEF : ℕ; IFNDEF : ℕ; ELIF : ℕ; ELSE : ℕ; ENDIF : ℕ; EXTENSION : ℕ; UNKNOWN : ℕ }
 Word = record { INCLUDE = 0; DEFINE = 1; UNDEF = 2; LINE = 3; ERROR = 4; PRAGMA = 5; VERSION = 6; IF = 7; IFDEF = 8; IFNDEF = 9; ELIF = 10; ELSE = 11; ENDIF = 12; EXTENSION = 13; UNKNOWN = 14 }
+
+-- The bytes of a word, as `ascii` has them.
+abbrev pub letters : String → List ℕ
+letters ε = []
+letters (c ◂ s) = code c ∷ letters s
 
 -- The row of a table at a place; none behind its last.
 unfoldable pub row-at : {A : Type 0} → List A → ℕ → Option A

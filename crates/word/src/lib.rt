@@ -2,7 +2,9 @@
 use syntax_kind::kind::Kind;
 ghost use mathlib.Core.Path.{_≡_};
 ghost use Prim.Native.Nat.{ℕ};
-ghost use Rattle.word.specs.Word.{spelt-as, Finds, directive-at};
+ghost use Rattle.definition.specs.Text.{same};
+ghost use Rattle.definition.specs.Unescaped.{unescaped};
+ghost use Rattle.word.specs.Word.{letters, spelt-as, Finds, directive-at};
 
 // The places of the fourteen words in the table of directives, and what stands for an unknown word.
 pub struct Word {
@@ -41,25 +43,110 @@ impl Word {
     pub const UNKNOWN: usize = 14;
 }
 
+// Whether the text, unescaped, is one of the words. A literal is made anew in each call of the function that names it, so every word has a function.
+fn is_include(text: &[u8]) -> bool
+    ensures { λ r. ⌜ r ≡ same (unescaped (now (text .entry))) (letters "include") ⌝ }
+{
+    unescaped::eq(text, b"include")
+}
+
+fn is_define(text: &[u8]) -> bool
+    ensures { λ r. ⌜ r ≡ same (unescaped (now (text .entry))) (letters "define") ⌝ }
+{
+    unescaped::eq(text, b"define")
+}
+
+fn is_undef(text: &[u8]) -> bool
+    ensures { λ r. ⌜ r ≡ same (unescaped (now (text .entry))) (letters "undef") ⌝ }
+{
+    unescaped::eq(text, b"undef")
+}
+
+fn is_line(text: &[u8]) -> bool
+    ensures { λ r. ⌜ r ≡ same (unescaped (now (text .entry))) (letters "line") ⌝ }
+{
+    unescaped::eq(text, b"line")
+}
+
+fn is_error(text: &[u8]) -> bool
+    ensures { λ r. ⌜ r ≡ same (unescaped (now (text .entry))) (letters "error") ⌝ }
+{
+    unescaped::eq(text, b"error")
+}
+
+fn is_pragma(text: &[u8]) -> bool
+    ensures { λ r. ⌜ r ≡ same (unescaped (now (text .entry))) (letters "pragma") ⌝ }
+{
+    unescaped::eq(text, b"pragma")
+}
+
+fn is_version(text: &[u8]) -> bool
+    ensures { λ r. ⌜ r ≡ same (unescaped (now (text .entry))) (letters "version") ⌝ }
+{
+    unescaped::eq(text, b"version")
+}
+
+fn is_if(text: &[u8]) -> bool
+    ensures { λ r. ⌜ r ≡ same (unescaped (now (text .entry))) (letters "if") ⌝ }
+{
+    unescaped::eq(text, b"if")
+}
+
+fn is_ifdef(text: &[u8]) -> bool
+    ensures { λ r. ⌜ r ≡ same (unescaped (now (text .entry))) (letters "ifdef") ⌝ }
+{
+    unescaped::eq(text, b"ifdef")
+}
+
+fn is_ifndef(text: &[u8]) -> bool
+    ensures { λ r. ⌜ r ≡ same (unescaped (now (text .entry))) (letters "ifndef") ⌝ }
+{
+    unescaped::eq(text, b"ifndef")
+}
+
+fn is_elif(text: &[u8]) -> bool
+    ensures { λ r. ⌜ r ≡ same (unescaped (now (text .entry))) (letters "elif") ⌝ }
+{
+    unescaped::eq(text, b"elif")
+}
+
+fn is_else(text: &[u8]) -> bool
+    ensures { λ r. ⌜ r ≡ same (unescaped (now (text .entry))) (letters "else") ⌝ }
+{
+    unescaped::eq(text, b"else")
+}
+
+fn is_endif(text: &[u8]) -> bool
+    ensures { λ r. ⌜ r ≡ same (unescaped (now (text .entry))) (letters "endif") ⌝ }
+{
+    unescaped::eq(text, b"endif")
+}
+
+fn is_extension(text: &[u8]) -> bool
+    ensures { λ r. ⌜ r ≡ same (unescaped (now (text .entry))) (letters "extension") ⌝ }
+{
+    unescaped::eq(text, b"extension")
+}
+
 // Whether the text, unescaped, is the word at a place.
 fn spelt(w: usize, text: &[u8]) -> bool
     ensures { λ r. ⌜ r ≡ spelt-as w (now (text .entry)) ⌝ }
 {
     match w {
-        Word::INCLUDE => unescaped::eq(text, b"include"),
-        Word::DEFINE => unescaped::eq(text, b"define"),
-        Word::UNDEF => unescaped::eq(text, b"undef"),
-        Word::LINE => unescaped::eq(text, b"line"),
-        Word::ERROR => unescaped::eq(text, b"error"),
-        Word::PRAGMA => unescaped::eq(text, b"pragma"),
-        Word::VERSION => unescaped::eq(text, b"version"),
-        Word::IF => unescaped::eq(text, b"if"),
-        Word::IFDEF => unescaped::eq(text, b"ifdef"),
-        Word::IFNDEF => unescaped::eq(text, b"ifndef"),
-        Word::ELIF => unescaped::eq(text, b"elif"),
-        Word::ELSE => unescaped::eq(text, b"else"),
-        Word::ENDIF => unescaped::eq(text, b"endif"),
-        Word::EXTENSION => unescaped::eq(text, b"extension"),
+        Word::INCLUDE => is_include(text),
+        Word::DEFINE => is_define(text),
+        Word::UNDEF => is_undef(text),
+        Word::LINE => is_line(text),
+        Word::ERROR => is_error(text),
+        Word::PRAGMA => is_pragma(text),
+        Word::VERSION => is_version(text),
+        Word::IF => is_if(text),
+        Word::IFDEF => is_ifdef(text),
+        Word::IFNDEF => is_ifndef(text),
+        Word::ELIF => is_elif(text),
+        Word::ELSE => is_else(text),
+        Word::ENDIF => is_endif(text),
+        Word::EXTENSION => is_extension(text),
         _ => false,
     }
 }

@@ -5,7 +5,7 @@ use mathlib.Core.Path.{_≡_, refl, sym, ap, _∙_}
 use mathlib.Core.List.{List, []}
 use lib.ListN.{length, drop, getD}
 use Rattle.definition.specs.Utf8.{left}
-use Rattle.text.specs.Utf8.{wants, next-wants, wanted-after, told, passes}
+use Rattle.text.specs.Utf8.{wants, next-wants, wanted-after, told, Passes}
 use Rattle.text.specs.declared.utf8.State.{State}
 use Rattle.text.specs.declared.utf8.State.the-variants.{Start}
 use Rattle.text.specs.declared.utf8.Next.{Next}
@@ -29,18 +29,13 @@ module _ (src : List ℕ) (s : State) (i : ℕ) (k : Checking src s i) where
   further : (n : Next) → i < length src → next-wants n ≡ wanted-after (wants s) (getD src i 0) → left [] src ≡ go-on (next-wants n) (drop (i + 1) src)
   further n h e = k .rest ∙ left-more src (wants s) i h ∙ ap (λ o. go-on o (drop (i + 1) src)) (sym e)
 
-  wanted-byte : (n : Next) (t : State) → i < length src → next-wants n ≡ wanted-after (wants s) (getD src i 0) → n ≡ To t → Checking src t (i + 1)
-  wanted-byte n t h e q = record { within = omega arith; rest = further n h e ∙ ap (λ n. go-on (next-wants n) (drop (i + 1) src)) q }
-
-  -- Bytes of ASCII are passed over.
-  passed-over : (w : ℕ) → w ≡ passes s src i → 0 < w → Checking src s (i + w)
-  passed-over w e h = let p = pass-over s src i w e h in record { within = p .within; rest = k .rest ∙ p .same }
-
-  over-within : (w : ℕ) → w ≡ passes s src i → 0 < w → i + w ≤ length src
-  over-within w e h = pass-over s src i w e h .within
-
-  over-nearer : (w : ℕ) → w ≡ passes s src i → 0 < w → length src - (i + w) < length src - i
-  over-nearer w e h = omega (arith, over-within w e h)
+  -- A byte that is wanted, and the ASCII behind it.
+  wanted-byte : (n : Next) (t : State) (to : ℕ) → i < length src → next-wants n ≡ wanted-after (wants s) (getD src i 0) → n ≡ To t
+      → Passes t src (i + 1) to → Checking src t to
+  wanted-byte n t to h e q p = record {
+    within = p .within;
+    rest = further n h e ∙ ap (λ n. go-on (next-wants n) (drop (i + 1) src)) q ∙ pass-over t src (i + 1) to p;
+  }
 
   unwanted-byte : (n : Next) → i < length src → next-wants n ≡ wanted-after (wants s) (getD src i 0) → n ≡ Unwanted → told Broken ≡ left [] src
   unwanted-byte n h e q = sym (further n h e ∙ ap (λ n. go-on (next-wants n) (drop (i + 1) src)) q)
@@ -61,14 +56,11 @@ check-spec =
     Inv-loop
     μ-loop
     (λ c. start _)
-    (λ c κs. search cases)
-    (λ c. search (over-within, cases))
-    (λ c. search (over-nearer, cases))
-    (λ c. search (passed-over, cases))
     (λ c. search cases)
     (λ c κs. search cases)
     (λ c. search cases)
     (λ c. search cases)
+    (λ c κs. search cases)
     (λ c. search cases)
     (λ c. search (wanted-byte, cases))
     (λ c. search cases)

@@ -1,0 +1,9 @@
+-- `is_defined` compares with `defined`.
+use borrow.Author.Needs.{needs}
+use Rattle.definition.specs.Text.{ascii}
+use Rattle.pre.proofs.name.is_defined.Statement.{statement}
+use Rattle.pre.proofs.name.is_defined.Tie as tie
+
+pub is-defined-spec : {M : Type 1} → statement M
+unfolding ascii
+is-defined-spec = tie.close (tie.spec (λ c. search needs) (λ c κs. search needs) (λ c. search needs))

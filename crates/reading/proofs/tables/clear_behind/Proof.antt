@@ -1,0 +1,15 @@
+-- `clear_behind` clears the rest of a table.
+use Rattle.text.proofs.Cases.{cases}
+use Rattle.reading.proofs.Ending.{cleared-part}
+use Rattle.reading.proofs.tables.clear_behind.Statement.{statement}
+use Rattle.reading.proofs.tables.clear_behind.Tie as tie
+
+pub clear-behind-spec : {M : Type 1} → statement M
+clear-behind-spec = tie.close (tie.spec
+    (λ c. search cases)
+    (λ c. search cases)
+    (λ c. search cases)
+    (λ c. search cases)
+    (λ c κs. search cases)
+    (λ c. search cases)
+    (λ c. search (cleared-part, cases)))
