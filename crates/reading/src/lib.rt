@@ -38,15 +38,15 @@ pub fn read(src: &[u8], entries: &mut [u32], errors: &mut [u32], lines: &mut [u3
 pub fn define_body(src: &[u8], entries: &mut [u32]) -> Counted
     ensures { λ r. ⌜ Reads-body (now (src .entry)) (length (now (entries .entry))) r (now (entries .exit)) ⌝ }
 {
-    let refusal = source::refused(src);
-    if refusal != Refusal::NONE {
-        return body::refused(entries, refusal);
+    let refused = source::refused(src);
+    if refused != Refusal::NONE {
+        return body::refused(entries, refused);
     }
     let row = body::write(src, entries);
     let pen = row.pen;
-    let shortage = body::shortage(row.over, pen.n, entries.len());
-    if shortage != Refusal::NONE {
-        return body::refused(entries, shortage);
+    let short = body::shortage(row.over, pen.n, entries.len());
+    if short != Refusal::NONE {
+        return body::refused(entries, short);
     }
     body::finished(entries, pen.n)
 }

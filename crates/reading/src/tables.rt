@@ -10,7 +10,7 @@ ghost use Rattle.reading.specs.Ended.{ended-checks, Refused, cleared-beh
 // How many numbers an entry has.
 pub const ENTRY: usize = 5;
 
-// Where a reading ended: whether a body held too many ##, and the places behind the last entry, the last error and the last line; one past a
+// Where a reading ended: whether a body held too many ##, and the places behind the last entry, the last error and the last line; past the
 // table's end if they don't fit.
 pub struct Ends {
     pub over: bool,
