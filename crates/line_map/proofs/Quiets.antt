@@ -12,20 +12,20 @@ use lib.ListN.{getD}
 use Rattle.definition.specs.Newline.{LF, CR, CRLF, newline}
 use Rattle.text.specs.Stretch.{Passing}
 use Rattle.text.proofs.Stretches.{Fair, stretch-same}
-use Rattle.line_map.specs.Quiet.{quiet-look}
+use Rattle.line_map.specs.Quiet.{quiet, quiet-look}
 use Rattle.line_map.proofs.Ends.{ends-from, none-at}
 
 -- Bytes are quiet where the smallest is.
 pub quiet-fair : Fair quiet-look
 quiet-fair = record {
   some = omega arith;
-  apart = λ m b h. let l : 14 ≤ min m b = leb-true 14 (min m b) h in (le-leb 14 m (omega arith), le-leb 14 b (omega arith));
+  apart = λ m b h. let l : quiet ≤ min m b = leb-true quiet (min m b) h in (le-leb quiet m (omega arith), le-leb quiet b (omega arith));
 }
 
 -- So no newline begins in a stretch of such bytes.
-quiet-byte : (b : ℕ) → Fits w8 b → leb 14 b ≡ true → newline b ≡ false
+quiet-byte : (b : ℕ) → Fits w8 b → leb quiet b ≡ true → newline b ≡ false
 quiet-byte b h e =
-    let l : 14 ≤ b = leb-true 14 b e in
+    let l : quiet ≤ b = leb-true quiet b e in
     rw (ne-eqb b LF (λ q. omega arith), ne-eqb b CR (λ q. omega arith), ne-eqb b CRLF (λ q. omega arith))
 
 pub quiet-over : (s : List ℕ) → ((i : ℕ) → Fits w8 (getD s i 0)) → (at to : ℕ) → Passing quiet-look s at to → ends-from at s ≡ ends-from to s

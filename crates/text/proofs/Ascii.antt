@@ -9,7 +9,7 @@ use lib.ListN.{length, drop, getD}
 use Rattle.definition.specs.Text.{some}
 use Rattle.definition.specs.Utf8.{char-forms, left}
 use Rattle.text.specs.Stretch.{Passing}
-use Rattle.text.specs.Utf8.{starts, wants, wanted-after, ascii-look, Passes}
+use Rattle.text.specs.Utf8.{starts, wants, wanted-after, above-ascii, ascii-look, Passes}
 use Rattle.text.specs.declared.utf8.State.{State}
 use Rattle.text.specs.declared.utf8.State.the-variants.{Start, Tail1, Tail2, Tail3, AfterE0, AfterED, AfterF0, AfterF4}
 use Rattle.text.proofs.Stretches.{Fair, stretch-same}
@@ -19,11 +19,11 @@ use Rattle.text.proofs.Utf8s.{first-in, follow-range, left-more}
 pub ascii-fair : Fair ascii-look
 ascii-fair = record {
   some = omega arith;
-  apart = λ m b h. let l : max m b < 128 = ltb-true (max m b) 128 h in (lt-ltb m 128 (omega arith), lt-ltb b 128 (omega arith));
+  apart = λ m b h. let l : max m b < above-ascii = ltb-true (max m b) above-ascii h in (lt-ltb m above-ascii (omega arith), lt-ltb b above-ascii (omega arith));
 }
 
 -- ASCII is one byte a character.
-one-low : (src : List ℕ) (i : ℕ) → i < length src → getD src i 0 < 128 → left [] (drop i src) ≡ left [] (drop (i + 1) src)
+one-low : (src : List ℕ) (i : ℕ) → i < length src → getD src i 0 < above-ascii → left [] (drop i src) ≡ left [] (drop (i + 1) src)
 unfolding wanted-after follow-range char-forms
 one-low src i h l = left-more src [] i h ∙ rw (← first-in 0 0x7F {r = some []} {b = getD src i 0} refl (omega arith) (omega arith)) refl
 
@@ -43,4 +43,4 @@ module _ (q : State) (src : List ℕ) (i : ℕ) where
   pass-ascii r to e p k = record { forward = k .forward; within = k .within; each = λ j a b. (sym e ∙ p, k .each j a b) }
 
   pub pass-over : (to : ℕ) → Passes q src i to → left (wants q) (drop i src) ≡ left (wants q) (drop to src)
-  pass-over = stretch-same src i (λ j. left (wants q) (drop j src)) (λ j h p. rw (start-wants q (p .0)) (one-low src j h (ltb-true _ 128 (p .1))))
+  pass-over = stretch-same src i (λ j. left (wants q) (drop j src)) (λ j h p. rw (start-wants q (p .0)) (one-low src j h (ltb-true _ above-ascii (p .1))))

@@ -45,9 +45,13 @@ told Nothing = nothing
 told Cut = cut
 told Broken = broken
 
--- The largest of 64 bytes: all of them are ASCII if it is.
+-- ASCII is below this.
+abbrev pub above-ascii : ℕ
+above-ascii = 128
+
+-- The largest of 64 bytes: it is ASCII where all of them are.
 abbrev pub ascii-look : Look
-ascii-look = record { size = 64; none = 0; both = max; test = λ b. ltb b 128 }
+ascii-look = record { size = 64; none = 0; both = max; test = λ b. ltb b above-ascii }
 
 -- Any character may follow.
 abbrev pub starts : State → Bool
@@ -62,4 +66,4 @@ starts AfterF4 = false
 
 -- All that is passed over in a state is ASCII, where any character may follow.
 abbrev pub Passes : State → List ℕ → ℕ → ℕ → Type 0
-Passes q = Stretch (λ b. (starts q ≡ true) × (ltb b 128 ≡ true))
+Passes q = Stretch (λ b. (starts q ≡ true) × (ascii-look .test b ≡ true))

@@ -109,6 +109,9 @@ fn larger(a: u8, b: u8) -> u8
     a
 }
 
+// ASCII is below this.
+const ABOVE_ASCII: u8 = 128;
+
 // How many bytes are looked at together.
 const STEP: usize = 64;
 
@@ -134,7 +137,7 @@ fn all_ascii(src: &[u8], at: usize) -> bool
     if src.len() - at < STEP {
         return false;
     }
-    largest(src, at) < 128
+    largest(src, at) < ABOVE_ASCII
 }
 
 // Behind the ASCII at a place, as far as it goes in whole steps.
@@ -156,7 +159,7 @@ fn next_high(src: &[u8], at: usize) -> usize
 {
     let mut i = pass_steps(src, at);
     while i < src.len() {
-        if 128 <= src[i] {
+        if ABOVE_ASCII <= src[i] {
             return i;
         }
         i += 1;

@@ -17,7 +17,7 @@ use Rattle.definition.specs.Grammar.{words, rest-after}
 abbrev pub Word : record { INCLUDE : ℕ; DEFINE : ℕ; UNDEF : ℕ; LINE : ℕ; ERROR : ℕ; PRAGMA : ℕ; VERSION : ℕ; IF : ℕ; IFDEF : ℕ; IFNDEF : ℕ; ELIF : ℕ; ELSE : ℕ; ENDIF : ℕ; EXTENSION : ℕ; UNKNOWN : ℕ }
 Word = record { INCLUDE = 0; DEFINE = 1; UNDEF = 2; LINE = 3; ERROR = 4; PRAGMA = 5; VERSION = 6; IF = 7; IFDEF = 8; IFNDEF = 9; ELIF = 10; ELSE = 11; ENDIF = 12; EXTENSION = 13; UNKNOWN = 14 }
 
--- The bytes of a word, as `ascii` has them.
+-- The bytes of a word, as `ascii` has them, but open to every proof: so the functions that compare with one word need no proof of their own.
 abbrev pub letters : String → List ℕ
 letters ε = []
 letters (c ◂ s) = code c ∷ letters s
