@@ -1,7 +1,7 @@
 //! Runs one input through the library and through the Rust, and compares every number.
 
 use std::{
-    fmt::{Display, Write},
+    fmt::Write,
     sync::atomic::{AtomicBool, Ordering},
 };
 
@@ -10,20 +10,24 @@ use oracle::calls;
 use crate::{
     damage,
     exports::{self, Counted, Pasted, Place},
+    lender::{Lender, Number},
+    reading::Reader,
     Random,
 };
 
 /// The calls compared, in the order in which they are counted
-pub const CALLS: [&str; 5] = ["tokens", "line table", "unescape", "lookup", "paste"];
+pub const CALLS: [&str; 7] = ["tokens", "line table", "unescape", "define body", "lookup", "paste", "read"];
 
 const TOKENS: usize = 0;
 const LINES: usize = 1;
 const UNESCAPE: usize = 2;
-const LOOKUP: usize = 3;
-const PASTE: usize = 4;
+pub(crate) const BODY: usize = 3;
+const LOOKUP: usize = 4;
+const PASTE: usize = 5;
+pub(crate) const READ: usize = 6;
 
 /// The refusals of tables that are too short, by call; the Rust has none
-const TOO_SHORT: [u32; 3] = [4, 6, 8];
+const TOO_SHORT: [u32; 4] = [4, 6, 8, 4];
 
 /// Line tables above this length are looked up in only twice: the Rust's is built at each lookup
 const LONG_LINE_TABLE: usize = 100_000;
@@ -31,7 +35,7 @@ const LONG_LINE_TABLE: usize = 100_000;
 #[derive(Default, Clone, Copy)]
 pub struct Tally {
     pub inputs: u64,
-    pub calls: [u64; 5],
+    pub calls: [u64; CALLS.len()],
     pub differences: u64,
 }
 
@@ -46,49 +50,13 @@ impl Tally {
 /// Whether a difference has been printed
 static PRINTED: AtomicBool = AtomicBool::new(false);
 
-/// What a table is made of: numbers of 32 bits, or bytes
-trait Number: Copy + PartialEq + Default + Display {
-    /// What stands in a table before it is lent
-    const RUBBISH: Self;
-}
-
-impl Number for u32 {
-    const RUBBISH: u32 = 0xa5a5_a5a5;
-}
-
-impl Number for u8 {
-    const RUBBISH: u8 = 0xa5;
-}
-
-/// Rubbish numbers before and behind each lent table, which no call may touch
-const GUARD: usize = 8;
-
-/// The memory that tables are lent from
-#[derive(Default)]
-struct Lender<T>(Vec<T>);
-
-impl<T: Number> Lender<T> {
-    /// The answer, the table afterwards, and whether the numbers around it are untouched
-    fn lend(&mut self, room: usize, call: impl FnOnce(&mut [T]) -> Counted) -> (Counted, &[T], bool) {
-        let whole = room + 2 * GUARD;
-        if self.0.len() < whole {
-            self.0.resize(whole, T::RUBBISH);
-        }
-        let (whole, table) = (..whole, GUARD..GUARD + room);
-        self.0[whole].fill(T::RUBBISH);
-        let answer = call(&mut self.0[table.clone()]);
-        let mut around = self.0[..GUARD].iter().chain(&self.0[whole][table.end..]);
-        let untouched = around.all(|&number| number == T::RUBBISH);
-        (answer, &self.0[table], untouched)
-    }
-}
-
 #[derive(Default)]
 pub struct Checker {
     pub tally: Tally,
-    random: Random,
-    numbers: Lender<u32>,
+    pub(crate) random: Random,
+    pub(crate) numbers: Lender<u32>,
     bytes: Lender<u8>,
+    pub(crate) reader: Reader,
 }
 
 impl Checker {
@@ -101,7 +69,7 @@ impl Checker {
     /// Compares the tokens, the line table and the unescaped text of a source, and lookups in its lines
     pub fn source(&mut self, source: &[u8]) {
         self.tally.inputs += 1;
-        let Self { tally, random, numbers, bytes } = self;
+        let Self { tally, random, numbers, bytes, .. } = self;
 
         let tokens = calls::tokens(source);
         let want = tokens.as_ref().map(|t| (t.len(), t.as_flattened())).map_err(|&refusal| refusal);
@@ -167,7 +135,7 @@ impl Checker {
 /// Compares a call that fills a table, given the Rust's answer: with a table just long enough, a
 /// longer one, one that lacks a number and one that is shorter still; where the source is refused,
 /// with none, a short one and one that might have held the answer
-fn fills<T: Number>(
+pub(crate) fn fills<T: Number>(
     tally: &mut Tally,
     random: &mut Random,
     lender: &mut Lender<T>,
@@ -192,30 +160,39 @@ fn fills<T: Number>(
             Err(refusal) => (refusal, 0, &[][..]),
         };
         let want = Counted { refusal, count };
-        let (got, table, untouched) = lender.lend(room, |table| export(source, table));
+        let got = export(source, lender.lend(room));
         tally.calls[call] += 1;
-        let (used, unused) = table.split_at(numbers.len());
-        let right = used == numbers && unused.iter().all(|&number| number == T::default());
-        if got != want || !right || !untouched {
+        let (unlike, untouched) = (lender.unlike(numbers), lender.untouched());
+        if got != want || unlike.is_some() || !untouched {
             difference(tally, call, || {
-                let mut text = format!("table of {room}, {} bytes {}", source.len(), shown(source));
+                let mut text = format!("table of {room}, {}", shown(source));
                 write!(text, "\n  Rust     {want:?}\n  library  {got:?}").unwrap();
-                let wanted = |place| numbers.get(place).copied().unwrap_or_default();
-                if let Some(place) = (0..room).find(|&place| table[place] != wanted(place)) {
-                    let (want, got) = (wanted(place), table[place]);
-                    write!(text, "\n  number {place} of the table: Rust {want}, library {got}").unwrap();
-                }
-                if !untouched {
-                    text.push_str("\n  memory outside the table was written");
-                }
+                write_unlike(&mut text, "the table", numbers, unlike, untouched);
                 text
             });
         }
     }
 }
 
+/// Says what is wrong with a table
+pub(crate) fn write_unlike<T: Number>(
+    text: &mut String,
+    table: &str,
+    numbers: &[T],
+    unlike: Option<(usize, T)>,
+    untouched: bool,
+) {
+    if let Some((place, got)) = unlike {
+        let want = numbers.get(place).copied().unwrap_or_default();
+        write!(text, "\n  number {place} of {table}: Rust {want}, library {got}").unwrap();
+    }
+    if !untouched {
+        write!(text, "\n  memory outside {table} was written").unwrap();
+    }
+}
+
 /// Counts a difference and prints the first
-fn difference(tally: &mut Tally, call: usize, text: impl FnOnce() -> String) {
+pub(crate) fn difference(tally: &mut Tally, call: usize, text: impl FnOnce() -> String) {
     tally.differences += 1;
     if !PRINTED.swap(true, Ordering::Relaxed) {
         println!("DIFFERENCE in {}: {}", CALLS[call], text());
@@ -223,8 +200,8 @@ fn difference(tally: &mut Tally, call: usize, text: impl FnOnce() -> String) {
 }
 
 /// The input, cut where it is long
-fn shown(source: &[u8]) -> String {
+pub(crate) fn shown(source: &[u8]) -> String {
     const MOST: usize = 400;
     let dots = if source.len() > MOST { " .." } else { "" };
-    format!("\"{}\"{dots}", source[..source.len().min(MOST)].escape_ascii())
+    format!("{} bytes \"{}\"{dots}", source.len(), source[..source.len().min(MOST)].escape_ascii())
 }

@@ -5,7 +5,7 @@ use oracle::inputs;
 use crate::{
     checker::Checker,
     damage::{self, BORDERS},
-    large, Random,
+    directives, large, Random,
 };
 
 /// Pieces, the longest row of them in a quick run and in a whole one, and what stands before
@@ -52,26 +52,37 @@ const LARGE_KINDS: [u32; 18] = [
 
 pub type Work = Box<dyn FnOnce(&mut Checker) + Send>;
 
-/// Names of kinds, and jobs with the place of their kind
+/// A kind of inputs: the word by which it is asked for, its name, and whether its sources are large
+pub struct Kind {
+    pub word: &'static str,
+    pub name: &'static str,
+    pub large: bool,
+}
+
+/// Kinds, and jobs: their number, the place of their kind, and the work
 #[derive(Default)]
 pub struct Plan {
-    pub kinds: Vec<&'static str>,
-    pub jobs: Vec<(usize, Work)>,
+    pub kinds: Vec<Kind>,
+    pub jobs: Vec<(usize, usize, Work)>,
 }
 
 impl Plan {
-    fn kind(&mut self, name: &'static str) {
-        self.kinds.push(name);
+    pub fn kind(&mut self, word: &'static str, name: &'static str) {
+        self.kinds.push(Kind { word, name, large: false });
     }
 
-    fn job(&mut self, work: impl FnOnce(&mut Checker) + Send + 'static) {
-        self.jobs.push((self.kinds.len() - 1, Box::new(work)));
+    pub fn large_kind(&mut self, word: &'static str, name: &'static str) {
+        self.kinds.push(Kind { word, name, large: true });
+    }
+
+    pub fn job(&mut self, work: impl FnOnce(&mut Checker) + Send + 'static) {
+        self.jobs.push((self.jobs.len(), self.kinds.len() - 1, Box::new(work)));
     }
 
     /// As many inputs as said, some at a time
-    fn many(&mut self, name: &'static str, count: usize, work: fn(&mut Checker, &mut Random)) {
+    pub fn many(&mut self, word: &'static str, name: &'static str, count: usize, work: fn(&mut Checker, &mut Random)) {
         const AT_ONCE: usize = 20_000;
-        self.kind(name);
+        self.kind(word, name);
         let seed = self.kinds.len() << 32;
         for part in 0..count.div_ceil(AT_ONCE) {
             let count = AT_ONCE.min(count - part * AT_ONCE);
@@ -83,22 +94,33 @@ impl Plan {
     }
 }
 
-pub fn plan(quick: bool) -> Plan {
+/// The kinds that one of the words asks for: `calls`, `reading`, or the word of one kind; all, if there is none
+pub fn plan(quick: bool, words: &[&str]) -> Plan {
     let mut plan = Plan::default();
+    five_calls(&mut plan, quick);
+    directives::plan(&mut plan, quick);
+    let asked = |kind: &Kind| words.iter().any(|&word| kind.word == word || kind.word.split('/').next() == Some(word));
+    let kinds = &plan.kinds;
+    plan.jobs.retain(|&(_, kind, _)| words.is_empty() || asked(&kinds[kind]));
+    plan
+}
+
+/// Adds the comparisons of the tokens, the line table, unescaping, lookup and pasting
+fn five_calls(plan: &mut Plan, quick: bool) {
     let times = |few: usize, many: usize| if quick { few } else { many };
 
-    plan.kind("sources of about 16,777,216 bytes");
+    plan.large_kind("calls/large", "sources of about 16,777,216 bytes");
     for source in large::sources(quick) {
         plan.job(move |checker| checker.source(&source()));
     }
 
-    plan.kind(if quick { "every source of at most 2 bytes" } else { "every source of at most 3 bytes" });
+    plan.kind("calls/short", if quick { "every source of at most 2 bytes" } else { "every source of at most 3 bytes" });
     plan.job(|checker| checker.source(b""));
     for first in 0..=255 {
         plan.job(move |checker| short_sources(checker, first, !quick));
     }
 
-    plan.kind("exhaustive over small alphabets");
+    plan.kind("calls/rows", "exhaustive over small alphabets");
     for (pieces, few, many, prefix) in ALPHABETS {
         let most = times(few, many).to_string();
         plan.job(move |checker| {
@@ -107,48 +129,49 @@ pub fn plan(quick: bool) -> Plan {
         });
     }
 
-    plan.kind(if quick { "every 97th character" } else { "every character" });
+    plan.kind("calls/characters", if quick { "every 97th character" } else { "every character" });
     for from in (0..0x110000).step_by(0x8000) {
         let step = times(97, 1);
         plan.job(move |checker| characters(checker, from, step));
     }
 
-    plan.kind("not UTF-8, by the borders of RFC 3629");
+    plan.kind("calls/borders", "not UTF-8, by the borders of RFC 3629");
     for first in BORDERS.into_iter().skip(times(14, 0)).step_by(times(4, 1)) {
         plan.job(move |checker| borders(checker, first));
     }
 
-    plan.many("not UTF-8, within text", times(10_000, 1_000_000), |checker, random| {
+    plan.many("calls/damaged", "not UTF-8, within text", times(10_000, 1_000_000), |checker, random| {
         let mut source = text(random, 12);
         let place = random.below(source.len() + 1);
         source.splice(place..place, damage::not_utf8(random));
         checker.source(&source);
     });
-    plan.many("random pieces", times(10_000, 1_500_000), |checker, random| checker.source(&text(random, 40)));
-    plan.many("random bytes", times(5_000, 1_000_000), |checker, random| {
+    plan.many("calls/pieces", "random pieces", times(10_000, 1_500_000), |checker, random| {
+        checker.source(&text(random, 40))
+    });
+    plan.many("calls/bytes", "random bytes", times(5_000, 1_000_000), |checker, random| {
         let mask = random.pick(&[0x7f, 0x7f, 0xff]);
         let bytes: Vec<u8> = (0..random.below(80)).map(|_| random.number() as u8 & mask).collect();
         checker.source(&bytes);
     });
-    plan.many("random sources", times(15_000, 1_500_000), |checker, random| {
+    plan.many("calls/random", "random sources", times(15_000, 1_500_000), |checker, random| {
         checker.source(&inputs::Random(random.number()).source());
     });
-    plan.many("mutated sources", times(25_000, 2_500_000), |checker, random| {
+    plan.many("calls/mutated", "mutated sources", times(25_000, 2_500_000), |checker, random| {
         checker.source(&inputs::Random(random.number()).damaged());
     });
-    plan.many("line tables looked up in", times(20_000, 2_000_000), |checker, random| {
+    plan.many("calls/lookups", "line tables looked up in", times(20_000, 2_000_000), |checker, random| {
         let lines = damage::any_lines(random);
         let last = lines.last().copied().unwrap_or(0).min(1 << 30) as usize;
         checker.tally.inputs += 1;
         (0..3).for_each(|_| checker.lookup(&lines, damage::offset(random, &lines, last)));
     });
 
-    plan.kind("every line table of up to 5 starts below 6");
+    plan.kind("calls/line-tables", "every line table of up to 5 starts below 6");
     plan.job(every_line_table);
 
-    plan.kind("pairs of kinds pasted");
+    plan.kind("calls/pastes", "pairs of kinds pasted");
     plan.job(pastes);
-    plan
 }
 
 /// The source of that byte alone, and all that begin with it and have one byte more, or two

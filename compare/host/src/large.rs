@@ -5,12 +5,12 @@ use oracle::{calls::MAX_BYTES, inputs};
 pub type Source = Box<dyn FnOnce() -> Vec<u8> + Send>;
 
 /// The pieces again and again, up to that many bytes
-fn repeated(pieces: &[u8], bytes: usize) -> Vec<u8> {
+pub fn repeated(pieces: &[u8], bytes: usize) -> Vec<u8> {
     pieces.iter().copied().cycle().take(bytes).collect()
 }
 
 /// That many bytes: a beginning, one piece again and again, and an end
-fn between(begin: &[u8], piece: &[u8], end: &[u8], bytes: usize) -> Vec<u8> {
+pub fn between(begin: &[u8], piece: &[u8], end: &[u8], bytes: usize) -> Vec<u8> {
     let mut source = begin.to_vec();
     source.extend(repeated(piece, bytes - begin.len() - end.len()));
     source.extend(end);
@@ -72,5 +72,61 @@ pub fn sources(quick: bool) -> Vec<Source> {
     sources.push(Box::new(|| between(&repeated(b"a", N / 2), b"\xed\xa0\x80", b"", N)));
     sources.push(Box::new(|| between(b"", b"a\n", b"\xf0\x9f\x98", N)));
     sources.push(Box::new(|| repeated(b"a", N - 1)));
+    sources
+}
+
+/// Sources to read: text, and directives and what may go wrong in them, again and again
+pub fn directives(quick: bool) -> Vec<Source> {
+    const N: usize = MAX_BYTES;
+    let mut sources: Vec<Source> = vec![
+        Box::new(|| written(N)),
+        Box::new(|| written(N + 1)),
+        Box::new(|| repeated(b"\xff", N + 1)),
+        Box::new(|| between(b"", b"#else a\n", b"\xc3", N)),
+        Box::new(|| repeated(b"#a\n", N)),
+    ];
+    if quick {
+        return sources;
+    }
+    for piece in [
+        "\n", "#", "#\n", "a", "a\n", " ", "\\\n", "\r\n", "#else\n", "#undef\n", "#undef a\n", "#undef 1\n",
+        "#ifdef a b\n", "#version\n", "#version 1 a b\n", "#extension\n", "#extension a:b\n", "#extension : :\n",
+        "#define a\n", "#define f(a,b)\n", "#define f(1 2 a b", "#define f(a", "#define f()##\n", "#include <a>\n",
+        "#include <", "#include", "#line 1\n", "#error\n", "#pragma a\n", "#if a##b##c\n", "#elif ##\n",
+        "#endif /**/ /**/\n", "#(", "#(a)", "#()\n", "(", ")", "# # #\n", "/**/#\\\n\n", "\"", "/*", "//",
+        "#define a\\\n", "#un\\\ndef a\n",
+    ] {
+        sources.push(Box::new(move || repeated(piece.as_bytes(), N)));
+    }
+    for (begin, piece, end) in [
+        // A body of ## from end to end, which is refused, and rows of trivia before one
+        ("#if ", "##", ""),
+        ("#if ", "##", "\n"),
+        ("#define a b", " /**/", "## c\n"),
+        ("#define a b", "\\\n", "##"),
+        ("#define a b", " \\\n", "\n"),
+        ("#define f(", "a,", ")"),
+        ("#define f(", "1 ", ""),
+        ("#define f(a", " ", ""),
+        ("#(", "()", ""),
+        ("#(", "\n#a", ")"),
+        ("#a", " a", "\n"),
+        ("#else", " a\\\n", ""),
+        ("#include ", "a ", "<a>"),
+        ("#undef", "\\\n", ""),
+        ("/*", "#a\n", "*/"),
+        ("a", " b", ""),
+    ] {
+        sources.push(Box::new(move || between(begin.as_bytes(), piece.as_bytes(), end.as_bytes(), N)));
+    }
+    let concats = format!("#define a {}\n", "a##".repeat(256));
+    sources.push(Box::new(move || repeated(concats.as_bytes(), N)));
+    // One body of too many, at the front and at the end
+    let many = format!("#if {}\n", "##".repeat(257));
+    let last = many.clone();
+    sources.push(Box::new(move || between(many.as_bytes(), b"a b\n", b"", N)));
+    sources.push(Box::new(move || between(b"", b"a b\n", last.as_bytes(), N)));
+    sources.push(Box::new(|| between(b"\x80", b"#a\n", b"", N)));
+    sources.push(Box::new(|| repeated(b"#a\n", N + 1)));
     sources
 }

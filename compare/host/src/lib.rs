@@ -1,10 +1,16 @@
 //! Compares the exports of the static library with the Rust's answers.
 
 pub mod checker;
+pub mod claims;
 pub mod damage;
+pub mod directives;
 pub mod exports;
 pub mod jobs;
 pub mod large;
+pub mod lender;
+pub mod reading;
+pub mod shapes;
+pub mod tables;
 
 /// Random numbers (splitmix64)
 #[derive(Default)]

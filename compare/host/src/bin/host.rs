@@ -1,6 +1,11 @@
 //! Compares the static library with the Rust on many inputs, and prints figures.
 //!
-//!     host [quick | files FILE ..]
+//!     host [quick] [calls | reading | KIND ..]
+//!     host files FILE ..
+//!
+//! Without a word everything is compared; `calls` are the tokens, the line table, unescaping, lookup and
+//! pasting, and `reading` is the reading of a source and of a define body. `host kinds` prints the words of the
+//! kinds of inputs.
 
 use std::{
     collections::VecDeque,
@@ -11,8 +16,12 @@ use std::{
 
 use host::{
     checker::{Checker, Tally, CALLS},
-    jobs::{plan, Plan, Work},
+    jobs::{self, plan, Plan, Work},
 };
+
+/// The Rust's `pp_concat` calls itself once for each ##; this holds the deepest body of 16,777,216 bytes. It is
+/// reserved and not used.
+const STACK: usize = 4 << 30;
 
 /// Jobs that wait, and what came out of each kind so far
 struct State {
@@ -21,7 +30,7 @@ struct State {
 }
 
 struct Kind {
-    name: &'static str,
+    about: jobs::Kind,
     tally: Tally,
     work: Duration,
     open: usize,
@@ -31,14 +40,18 @@ fn main() {
     let words: Vec<String> = std::env::args().skip(1).collect();
     let words: Vec<&str> = words.iter().map(String::as_str).collect();
     let total = match words[..] {
-        [] => run(plan(false)),
-        ["quick"] => run(plan(true)),
         ["files", ref files @ ..] => compare_files(files),
-        _ => {
-            eprintln!("host [quick | files FILE ..]");
-            exit(2);
+        ["kinds"] => {
+            plan(true, &[]).kinds.iter().for_each(|kind| println!("{:18} {}", kind.word, kind.name));
+            return;
         }
+        ["quick", ref words @ ..] => run(plan(true, words)),
+        ref words => run(plan(false, words)),
     };
+    if total.inputs == 0 {
+        eprintln!("nothing was compared; host [quick] [calls | reading | KIND ..], host files FILE .., host kinds");
+        exit(2);
+    }
     exit((total.differences > 0) as i32);
 }
 
@@ -48,27 +61,28 @@ fn compare_files(files: &[&str]) -> Tally {
         let source = std::fs::read(file).unwrap_or_else(|e| panic!("{file}: {e}"));
         checker.begin(place as u64);
         checker.source(&source);
+        checker.reading(&source);
         total.add(&checker.tally);
     }
     println!("{}", figures("files", &total, Duration::ZERO));
     total
 }
 
-/// Runs the jobs on two threads. The first kind, of large sources, is the first thread's work, and the
-/// other takes part in it only when nothing else is left.
+/// Runs the jobs on two threads. Large sources are the first thread's work, and the other takes part in it only
+/// when nothing else is left.
 fn run(plan: Plan) -> Tally {
     let start = Instant::now();
-    let kind = |&name| Kind { name, tally: Tally::default(), work: Duration::ZERO, open: 0 };
-    let mut kinds: Vec<Kind> = plan.kinds.iter().map(kind).collect();
-    plan.jobs.iter().for_each(|(kind, _)| kinds[*kind].open += 1);
-    let numbered = |(number, (kind, work))| (number, kind, work);
-    let waiting = plan.jobs.into_iter().enumerate().map(numbered).collect();
-    let state = Mutex::new(State { waiting, kinds });
+    let kind = |about| Kind { about, tally: Tally::default(), work: Duration::ZERO, open: 0 };
+    let mut kinds: Vec<Kind> = plan.kinds.into_iter().map(kind).collect();
+    plan.jobs.iter().for_each(|&(_, kind, _)| kinds[kind].open += 1);
+    let state = Mutex::new(State { waiting: plan.jobs.into(), kinds });
 
-    println!("{:42} {:>12} {:>13} {:>12} {:>8}", "", "inputs", "calls", "differences", "seconds");
+    println!("{:46} {:>11} {:>12} {:>11} {:>8}", "", "inputs", "calls", "differences", "seconds");
     std::thread::scope(|scope| {
-        scope.spawn(|| work(&state, true));
-        scope.spawn(|| work(&state, false));
+        for large in [true, false] {
+            let state = &state;
+            std::thread::Builder::new().stack_size(STACK).spawn_scoped(scope, move || work(state, large)).unwrap();
+        }
     });
 
     let kinds = state.into_inner().unwrap().kinds;
@@ -85,8 +99,8 @@ fn work(state: &Mutex<State>, large: bool) {
     let mut checker = Checker::default();
     loop {
         let next = {
-            let waiting = &mut state.lock().unwrap().waiting;
-            let place = waiting.iter().position(|&(_, kind, _)| large || kind != 0).unwrap_or(0);
+            let State { waiting, kinds } = &mut *state.lock().unwrap();
+            let place = waiting.iter().position(|&(_, kind, _)| kinds[kind].about.large == large).unwrap_or(0);
             waiting.remove(place)
         };
         let Some((number, kind, work)) = next else {
@@ -100,7 +114,7 @@ fn work(state: &Mutex<State>, large: bool) {
         kind.work += start.elapsed();
         kind.open -= 1;
         if kind.open == 0 {
-            println!("{}", figures(kind.name, &kind.tally, kind.work));
+            println!("{}", figures(kind.about.name, &kind.tally, kind.work));
         }
     }
 }
@@ -109,5 +123,5 @@ fn work(state: &Mutex<State>, large: bool) {
 fn figures(name: &str, tally: &Tally, time: Duration) -> String {
     let calls: u64 = tally.calls.iter().sum();
     let (inputs, differences, seconds) = (tally.inputs, tally.differences, time.as_secs_f64());
-    format!("{name:42} {inputs:>12} {calls:>13} {differences:>12} {seconds:>8.1}")
+    format!("{name:46} {inputs:>11} {calls:>12} {differences:>11} {seconds:>8.1}")
 }
