@@ -1,18 +1,21 @@
 #!/usr/bin/env python3
-"""Records the Rust's answers to the five exported calls, for a program that replays them.
+"""Records the Rust's answers to the seven exported calls, for a program that replays them.
 
 usage: record.py ORACLE FOLDER
 
-ORACLE is the folder of the oracle, built (`cargo build --offline --release`). FOLDER gets a file for each call: tokens,
-lines, unescape, lookup, paste. A file is a row of records; a number in it has 32 bits, little endian. A record: how many
-bytes its input has (a byte), a number n, the input, and the numbers that answer.
-  tokens, lines, unescape: the input is a source, and n the length of the table. Answer: refusal, count, and then every
-    number (or byte) of the table.
-  lookup: n is the offset, the input the line starts (numbers). Answer: refusal, line, column.
-  paste: n is the first kind, the input the second (a number). Answer: refusal, kind.
-Tables are just long enough, and some longer or one number short. The Rust has no tables: what it does not use of one is 0,
-and of one that is too short document 01's answer is recorded, the refusal, a count of 0, and zeros.
-A call with several tables would have their lengths in front of its source, and its tables one after another.
+ORACLE is the folder of the oracle, built (`cargo build --offline --release`). FOLDER gets a file for each call: read,
+body, tokens, lines, unescape, lookup, paste. A file is a row of records. A record: how many bytes its input has (two
+bytes), a number n (four bytes), the input, and the numbers that answer. Numbers are little endian. A number of the answer
+is one byte, below 254; or 254 and two bytes; or 255 and four.
+  read: n is the length of the entry table. The input is the lengths of the error table and of the line table (four bytes
+    each), and the source. Answer: refusal, counts of entries, errors and lines, and then every number of the three tables.
+  body, tokens, lines, unescape: the input is a source, and n the length of the table. Answer: refusal, count, and then
+    every number (or byte) of the table.
+  lookup: n is the offset, the input the line starts (four bytes each). Answer: refusal, line, column.
+  paste: n is the first kind, the input the second (four bytes). Answer: refusal, kind.
+Tables are just long enough, and some longer or one number short, of a reading each alone and together. The Rust has no
+tables: what it does not use of one is 0, and of one that is too short document 01's answer is recorded, the refusal,
+counts of 0, and zeros.
 Nothing is left to chance: two runs write the same bytes.
 """
 import random, struct, subprocess, sys
@@ -21,9 +24,9 @@ from pathlib import Path
 if len(sys.argv) != 3:
     sys.exit(__doc__)
 ORACLE, FOLDER = Path(sys.argv[1]) / "target/release", Path(sys.argv[2])
-# Of a source, of a table, and of the buffer that a file is read into.
-LONGEST, MOST_NUMBERS, MOST_BYTES = 60, 1_024, 524_288
-TOO_SHORT = {"tokens": 4, "lines": 6, "unescape": 8}
+# Of most sources, of a table, and of the buffer that a file is read into.
+LONGEST, MOST_NUMBERS, MOST_BYTES = 60, 4_096, 524_288
+TOO_SHORT = {"tokens": 4, "lines": 6, "unescape": 8, "body": 4}
 
 # The sources of document 01's worked readings, and of its text.
 WORKED = [b"", b"#", b"#\n", b"#undef\nfoo\n", b"#(a)\n", b"/***/", b"1.2.3", b"abc\\d", b"\n\r\n", b"<<<", b"#define F(a,) a\n",
@@ -43,6 +46,27 @@ ALPHABETS = [(r"\\ \n \r a 1", 4, (24, 24, 30)), (r"/ * \\ \n", 5, (40, 10, 8)),
 NOT_UTF8 = [b"\xc3", b"\xe2\x82", b"\xf0\x9f\x98", b"\xed\xa0\x80", b"\xed\xbf\xbf", b"\xc0\x80", b"\xc1\xbf", b"\xe0\x9f\xbf",
             b"\xf0\x8f\xbf\xbf", b"\xf4\x90\x80\x80", b"\xf5\x80\x80\x80", b"\xff", b"\x80", b"\xf8\x88\x80\x80\x80"]
 
+# The fourteen words, and what may stand behind one: right for some of them, wrong for others.
+WORDS = ["include", "define", "undef", "line", "error", "pragma", "version", "if", "ifdef", "ifndef", "elif", "else", "endif", "extension"]
+BEHIND = ["", "\n", " ", " \n", " a", " a\n", " a b\n", " 1\n", " 1 a\n", " 450 core x\n", "\na\n", "\r\na", "(a)\n", " (a)\n", " a(b,c) d\n", " a(b c\n",
+          " a(,)\n", " a##b\n", " ##\n", " a ## ", " a## /**/ \n", " <a>\n", " \"a\"\n", " <a\n", " a:b\n", " a : b c\n", " :\n", " a:\nb\n", "\\\na\n",
+          "/**/a//c\n", " defined\n", "#\n", "/*\n*/ x\n", " @ \xe9\n"]
+# Beginnings of a directive besides `#`.
+BEFORE = [" #", "/**/#", "a#", "# ", "#/*\n*/", "#\\\n", "\n\t#", "#()#"]
+# Sources that are cut off at each place.
+WHOLE = ["#define f(a, b) a ## b // c\n", "#extension GL_x : enable\n", "#version 450 core\n", "#include <a/b.h>\n", "#undef\n  #else x\n",
+         "# (a (b)\n#)#else\n", "#if a ## b ##\n#a b\n", "/* c */ a = b;\n"]
+
+# Pieces, rows of at most so many, what stands before, and how many of these sources are kept for the reading.
+DIRECTIVES = [(r"\n # ( ) a", 6, "", 260), (r"\s a , ) \n 1 ##", 5, "#define f(", 200), (r"a ## \s /**/ \\\n \n", 6, "#define a ", 160),
+              (r"\s a : \n 1 ##", 5, "#extension", 120), (r"\s a 1 \n ## defined", 5, "#version", 80), (r"< > \x22 a \n \s", 5, "#include", 120),
+              (r"## a \s \n /**/", 6, "#if", 100), (r"\s a \n # 1", 5, "#undef", 80), (r"# \n \r \s undef (", 6, "", 140),
+              (r"# ( ) \n \s a /* */", 6, "", 140), (r"#undef #define #version #extension #else #a #( ) \n \s a", 4, "", 200), (r"# \\ \n \r a", 6, "", 100)]
+# The same for bodies.
+BODIES = [(r"a ## \s \n", 5, "", 120), (r"a ## \s /**/ \\\n \n", 5, "", 120), (r"## ### # \s \n", 4, "", 60), (r"a ( ) < > \x22 \n ##", 4, "", 60)]
+# Rows of ## that a reading takes (256) and does not take (257), in the six bodies and where ## does not count.
+CONCAT_ROWS = ["#include ", "#define a ", "#line ", "#error ", "#pragma ", "#if ", "#elif ", "", "#(", "#define f("]
+
 def run(program, *words, given=b""):
     return subprocess.run([str(ORACLE / program), *map(str, words)], input=given, stdout=subprocess.PIPE, check=True).stdout
 
@@ -59,6 +83,7 @@ def answers(call, inputs):
     found, one = [], []
     for line in run("oracle", "batch", call, given=batch).decode().splitlines():
         word, *numbers = line.split(",")
+        one += {"node": [1], "leaf": [0]}.get(word, [])
         if word == "end":
             found.append(one)
             one = []
@@ -114,8 +139,73 @@ def pastes():
     refused = [(0, 1), (1, 0), (0, 0), (35, 1), (1, 35), (35, 22), (5, 35), (87, 1), (1, 87), (87, 5), (65537, 1), (1, 65536 + 28), (2**32 - 1, 1), (28, 2**32 - 1)]
     return list(dict.fromkeys(glued + random.sample(every, 200) + errors + refused))
 
+def rows(table):
+    """Rows over alphabets, so many of each."""
+    for pieces, most, prefix, count in table:
+        yield from spread(list(dict.fromkeys(generated("exhaust", pieces, 0, most, prefix))), count)
+
+def chosen(kind, seed, count):
+    """Random sources, so many, the shorter ones among four times as many."""
+    row = [s for s in dict.fromkeys(generated(kind, seed, 40_000)) if 4 <= len(s) <= LONGEST]
+    return sorted(random.sample(row, 4 * count), key=len)[:2 * count:2]
+
+def read_sources():
+    """Sources for the reading, and whether their tables are tried in all ways."""
+    first = WORKED + BORDERS + [b"#\xff\n", b"#undef \xc3", b"#undef\n1\n\n", b"#extension", b"#define f(1 2 a\n#else b\n"]
+    found = {source: True for source in first}
+    found |= {f"#{word}{tail}".encode(): tail in ("", "\na\n", " a b\n") for word in WORDS + ["a"] for tail in BEHIND}
+    found |= {f"{before}{word} a\n".encode(): False for before in BEFORE for word in ("define", "undef", "x", "else")}
+    found |= {whole[:at].encode(): False for whole in WHOLE for at in range(len(whole))}
+    found |= {source: False for source in rows(DIRECTIVES) if source not in found}
+    for kind, seed, count in ("random", 23, 240), ("mutate", 24, 300):
+        found |= {source: False for source in chosen(kind, seed, count) if source not in found}
+    found |= {b"#define a " + piece + b"\n": False for piece in NOT_UTF8}
+    found |= {(row + "##" * count + "\n").encode(): False for row in CONCAT_ROWS for count in (256, 257)}
+    return found
+
+def body_sources():
+    """The same for bodies."""
+    found = {source: True for source in WORKED + [b"", b"a", b" a", b" ## a", b"##", b"a ## b ## c \n", b"\n", b"a\nb"]}
+    found |= {source: False for source in rows(BODIES) if source not in found}
+    found |= {whole[7:].encode(): False for whole in WHOLE}
+    for kind, seed in ("random", 25), ("mutate", 26):
+        found |= {source: False for source in chosen(kind, seed, 60) if source not in found}
+    found |= {b"a " + piece: False for piece in NOT_UTF8}
+    found |= {(part * count + end).encode(): False for part in ("##", "a##") for count in (256, 257) for end in ("", "\n")}
+    return found
+
+def read_rooms(needs, thoroughly):
+    """Lengths of the three tables: just enough; longer, and one number short, each alone and together."""
+    short = [tuple(need - (1 << place & which > 0) for place, need in enumerate(needs)) for which in range(1, 8)]
+    short = [rooms for rooms in dict.fromkeys(short) if min(rooms) >= 0]
+    if thoroughly:
+        return [needs, tuple(need + 7 for need in needs), (needs[0] + 5, needs[1], needs[2] + 1), *short, (0, 0, 0)]
+    if random.random() < 0.15:
+        return [needs, random.choice(short)]
+    return [needs]
+
+def read_records():
+    """A reading's, as n, input and answer."""
+    found = read_sources()
+    for (source, thoroughly), answer in zip(found.items(), answers("read", list(found))):
+        refusal, *counts = answer[:4]
+        needs = 5 * counts[0], 10 * counts[1], counts[2]
+        assert len(answer) == 4 + sum(needs)
+        tables = answer[4:4 + needs[0]], answer[4 + needs[0]:4 + needs[0] + needs[1]], answer[4 + needs[0] + needs[1]:]
+        for rooms in [(12, 12, 3), (0, 1, 0)] if refusal else read_rooms(needs, thoroughly):
+            given = numbers(*rooms[1:]) + source
+            short = [refusal] * (refusal > 0) + [n for n, room, need in zip((4, 5, 6), rooms, needs) if room < need]
+            if short:
+                yield rooms[0], given, [short[0], 0, 0, 0] + [0] * sum(rooms)
+            else:
+                yield rooms[0], given, answer[:4] + [n for table, room in zip(tables, rooms) for n in table + [0] * (room - len(table))]
+
 def numbers(*row):
     return struct.pack(f"<{len(row)}I", *row)
+
+def compact(*row):
+    """Numbers of an answer."""
+    return b"".join(struct.pack("<B", n) if n < 254 else struct.pack("<BH", 254, n) if n < 65_536 else struct.pack("<BI", 255, n) for n in row)
 
 def rooms(source, need):
     """Lengths of tables for a source that needs so many numbers, besides just enough."""
@@ -145,19 +235,28 @@ def records():
     row = pastes()
     for (lhs, rhs), answer in zip(row, answers("paste", [b"%d %d" % pair for pair in row])):
         yield "paste", lhs, numbers(rhs), answer
+    for record in read_records():
+        yield "read", *record
+    found = body_sources()
+    for (source, thoroughly), answer in zip(found.items(), answers("body", list(found))):
+        need = len(answer) - 2
+        for room in (need, *([need - 1, need + 7, 0] if thoroughly or random.random() < 0.15 else [])):
+            if 0 <= room:
+                yield "body", room, source, with_room("body", answer, room)
 
 def main():
     random.seed(3)
     files, refusals = {}, {}
     for call, n, given, answer in records():
         assert len(answer) <= MOST_NUMBERS
-        files.setdefault(call, []).append(struct.pack("<BI", len(given), n) + given + numbers(*answer))
-        refusals[answer[0]] = refusals.get(answer[0], 0) + 1
+        files.setdefault(call, []).append(struct.pack("<HI", len(given), n) + given + compact(*answer))
+        found = refusals.setdefault(call, {})
+        found[answer[0]] = found.get(answer[0], 0) + 1
     for call, row in files.items():
         whole = b"".join(row)
         assert len(whole) < MOST_BYTES, call
         (FOLDER / call).write_bytes(whole)
-        print(f"{call}: {len(row)} records, {len(whole)} bytes")
-    print("by refusal:", ", ".join(f"{refusal}: {n}" for refusal, n in sorted(refusals.items())))
+        by_refusal = ", ".join(f"{refusal}: {n}" for refusal, n in sorted(refusals[call].items()))
+        print(f"{call}: {len(row)} records, {len(whole)} bytes; by refusal {by_refusal}")
 
 main()

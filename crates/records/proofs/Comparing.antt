@@ -7,7 +7,7 @@ use mathlib.Core.Bool.{Bool, true, false}
 use mathlib.Core.List.{List}
 use lib.ListN.{length, take, drop, getD}
 use borrow.Author.Tests.{lt-ltb, le-ltb, lt-leb, le-leb}
-use Rattle.records.specs.Numbers.{number}
+use Rattle.records.specs.Numbers.{pair, number}
 use Rattle.records.specs.Stand.{far}
 use Rattle.records.specs.Answers.{answer-behind}
 use Rattle.records.specs.Compared.{answer-at, behind, agrees, compared-from, compared}
@@ -19,8 +19,8 @@ module _ (call : ℕ) (s : List ℕ) (at : ℕ) where
   unfolding behind
   behind-cut h = rw (lt-ltb (length s) (answer-at s at) h)
 
-  pub behind-whole : (size n r : ℕ) → size ≡ getD s at 0 → n ≡ number s (at + 1) → 5 + size ≤ length s - at
-      → r ≡ answer-behind call n (take (at + 5 + size - (at + 5)) (drop (at + 5) s)) s (at + 5 + size) → r ≡ behind call s at
+  pub behind-whole : (size n r : ℕ) → size ≡ pair s at → n ≡ number s (at + 2) → 6 + size ≤ length s - at
+      → r ≡ answer-behind call n (take (at + 6 + size - (at + 6)) (drop (at + 6) s)) s (at + 6 + size) → r ≡ behind call s at
   unfolding behind
   behind-whole size n r e f h q = q ∙ rw (e, f, le-ltb (length s) (answer-at s at) (omega arith))
 

@@ -3,7 +3,7 @@ use Rattle.definition.specs.Text.{ℕ, ltb, if_then_else_}
 
 -- The longest table.
 abbrev pub most : ℕ
-most = 1_024
+most = 4_096
 
 -- A table of n numbers.
 abbrev pub room : ℕ → ℕ

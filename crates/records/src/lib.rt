@@ -4,8 +4,8 @@ mod number;
 mod rubbish;
 mod stand;
 
-use number::byte;
 use number::number;
+use number::pair;
 use stand::FAR;
 ghost use mathlib.Core.Path.{_≡_};
 ghost use Prim.Native.Nat.{_<_};
@@ -21,20 +21,23 @@ pub enum Comparison {
 }
 
 // The bytes of a record in front of its input.
-const FRAME: usize = 5;
+const FRAME: usize = 6;
 
 // The place behind a record, or far where its answer is not the call's.
 fn behind(call: u8, s: &[u8], at: usize) -> usize
     requires { ⌜ at < length (now s) ⌝ }
     ensures { λ r. ⌜ r ≡ Compared·behind call (now (s .entry)) at ⌝ }
 {
-    let size = byte(s, at) as usize;
+    if s.len() - at < FRAME {
+        return FAR;
+    }
+    let size = pair(s, at) as usize;
     if s.len() - at < FRAME + size {
         return FAR;
     }
     let input = at + FRAME;
     let answer = input + size;
-    agree::answered(call, number(s, at + 1), &s[input..answer], s, answer)
+    agree::answered(call, number(s, at + 2), &s[input..answer], s, answer)
 }
 
 // Compares the records of a call.

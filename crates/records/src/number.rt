@@ -1,9 +1,9 @@
-// Little-endian numbers of 32 bits in a row of bytes.
+// Little-endian numbers in a row of bytes.
 ghost use mathlib.Core.Path.{_≡_};
 ghost use Prim.Native.Nat.{_+_, _≤_, _<_};
 ghost use lib.ListN.{length, getD};
 ghost use Rattle.table.specs.Fills.{Written};
-ghost use Rattle.records.specs.Numbers.{number as Numbers·number, numbers};
+ghost use Rattle.records.specs.Numbers.{pair as Numbers·pair, number as Numbers·number, numbers};
 
 // The byte at a place as a number.
 pub fn byte(s: &[u8], at: usize) -> u32
@@ -14,7 +14,15 @@ pub fn byte(s: &[u8], at: usize) -> u32
     s[at] as u32
 }
 
-// The number at a place.
+// Two bytes at a place as a number,
+pub fn pair(s: &[u8], at: usize) -> u32
+    requires { ⌜ at + 2 ≤ length (now s) ⌝ }
+    ensures { λ r. ⌜ r ≡ Numbers·pair (now (s .entry)) at ⌝ }
+{
+    byte(s, at) + 256 * byte(s, at + 1)
+}
+
+// and four.
 pub fn number(s: &[u8], at: usize) -> u32
     requires { ⌜ at + 4 ≤ length (now s) ⌝ }
     ensures { λ r. ⌜ r ≡ Numbers·number (now (s .entry)) at ⌝ }

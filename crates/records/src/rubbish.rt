@@ -6,7 +6,7 @@ ghost use lib.ListN.{length};
 ghost use Rattle.records.specs.Rubbish.{most, room as Rubbish·room};
 
 // The longest table that is lent.
-pub const MOST: usize = 1024;
+pub const MOST: usize = 4096;
 
 // How long a table of n numbers is lent.
 pub fn room(n: u32) -> usize

@@ -1,26 +1,65 @@
 // Whether numbers stand in a file, one behind another. Each function answers the place behind them; far, if they do not.
 use crate::number::byte;
 use crate::number::number;
+use crate::number::pair;
 ghost use mathlib.Core.Path.{_≡_};
-ghost use Rattle.records.specs.Stand.{stands as Stand·stands, passed as Stand·passed};
+ghost use Prim.Native.Nat.{_+_, _≤_, _<_};
+ghost use lib.ListN.{length};
+ghost use Rattle.records.specs.Stand.{width as Stand·width, value as Stand·value, stands as Stand·stands, passed as Stand·passed};
 
 // The place behind a number that is not there.
 pub const FAR: usize = usize::MAX;
+
+// The first byte of a number that has two bytes more; the one above has four.
+const TWO_MORE: u32 = 254;
+
+// How many bytes the number at a place has,
+fn width(s: &[u8], at: usize) -> usize
+    requires { ⌜ at < length (now s) ⌝ }
+    ensures { λ r. ⌜ r ≡ Stand·width (now (s .entry)) at ⌝ }
+    ensures { λ r. ⌜ r ≤ 5 ⌝ }
+{
+    let first = byte(s, at);
+    if first < TWO_MORE {
+        return 1;
+    }
+    if first == TWO_MORE {
+        return 3;
+    }
+    5
+}
+
+// and the number.
+fn value(s: &[u8], at: usize) -> u32
+    requires { ⌜ at < length (now s) ⌝ }
+    requires { ⌜ at + Stand·width (now s) at ≤ length (now s) ⌝ }
+    ensures { λ r. ⌜ r ≡ Stand·value (now (s .entry)) at ⌝ }
+{
+    let first = byte(s, at);
+    if first < TWO_MORE {
+        return first;
+    }
+    if first == TWO_MORE {
+        return pair(s, at + 1);
+    }
+    number(s, at + 1)
+}
 
 // One number,
 fn stands(x: u32, s: &[u8], at: usize) -> usize
     ensures { λ r. ⌜ r ≡ Stand·stands x (now (s .entry)) at ⌝ }
 {
-    if s.len() < at {
+    if s.len() <= at {
         return FAR;
     }
-    if s.len() - at < 4 {
+    let bytes = width(s, at);
+    if s.len() - at < bytes {
         return FAR;
     }
-    if number(s, at) != x {
+    if value(s, at) != x {
         return FAR;
     }
-    at + 4
+    at + bytes
 }
 
 // two,

@@ -61,4 +61,6 @@ fn main() {
     replay(b"unescape", agree::UNESCAPE);
     replay(b"lookup", agree::LOOKUP);
     replay(b"paste", agree::PASTE);
+    replay(b"read", agree::READ);
+    replay(b"body", agree::BODY);
 }

@@ -9,6 +9,8 @@ pub behind-spec : {M : Type 1} → statement M
 behind-spec =
     tie.close
     (tie.spec
+    (λ c. search cases)
+    (λ c. behind-cut _ _ _ (omega arith))
     (λ c κs. search cases)
     (λ c. search cases)
     (λ c. search cases)

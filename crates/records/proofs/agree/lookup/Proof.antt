@@ -1,6 +1,6 @@
 -- `lookup` reads the line starts.
 use Rattle.text.proofs.Cases.{cases}
-use Rattle.records.proofs.Answering.{read-long, read-behind, long-behind}
+use Rattle.records.proofs.Answering.{starts-long, starts-behind, long-behind}
 use Rattle.records.proofs.agree.lookup.Statement.{statement}
 use Rattle.records.proofs.agree.lookup.Tie as tie
 
@@ -13,6 +13,6 @@ lookup-spec =
     (λ c κs. search cases)
     (λ c. search (long-behind, cases))
     (λ c. search cases)
-    (λ c. search (read-long, cases))
+    (λ c. search (starts-long, cases))
     (λ c κs. search cases)
-    (λ c. search (read-behind, cases)))
+    (λ c. search (starts-behind, cases)))
