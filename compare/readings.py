@@ -1,0 +1,83 @@
+#!/usr/bin/env python3
+"""Writes the sources that the program `readings` shows, and what it must print, from the Rust's answers.
+
+usage: readings.py ORACLE CRATE
+
+ORACLE is the folder of the oracle, built. CRATE (crates/readings) gets data/NAME for each source, their names in args, and
+stdout: the listing of each source, or `long`, and then a line for each length of tables: refusal, counts, and how many
+numbers of each table are not 0 afterwards. Of tables that are too short, which the Rust does not have, it is document 01's
+answer.
+"""
+import subprocess, sys
+from pathlib import Path
+
+if len(sys.argv) != 3:
+    sys.exit(__doc__)
+ORACLE, CRATE = Path(sys.argv[1]) / "target/release/oracle", Path(sys.argv[2])
+LONGEST = 512
+
+# The worked readings of document 01, sources that are not UTF-8, and 256 and 257 ## in each body, in a group and in text.
+SOURCES = {
+    "empty": b"", "hash": b"#", "pp_empty": b"#\n", "undef": b"#undef\nfoo\n", "group": b"#(a)\n", "stars": b"/***/", "digits": b"1.2.3",
+    "backslash": b"abc\\d", "newlines": b"\n\r\n", "left_op": b"<<<", "comma": b"#define F(a,) a\n", "version": b"#version\ncore\n", "unknown": b"#a",
+    "arguments": b"#define F(a b,) a ## b\n", "no_arguments": b"#define F (a)\n", "extension": b"#extension", "unended": b"#((a)\n",
+    "include": b"#include /*\n*/ <a\nb>\n", "comments": b"/*\n\r*/ a // b\n", "cut_off": b"#undef \xc3", "surrogate": b"\xed\xa0\x80\n", "concat_end": b"#if a ## b",
+    **{f"{word}_{count}": b"#%s %s\n" % (word.encode(), b"##" * count) for word in ("include", "define a", "line", "error", "pragma", "if", "elif") for count in (256, 257)},
+    "group_257": b"#(" + b"##" * 257 + b")\n", "text_257": b"##" * 257 + b"\n", "body_256": b"a##" * 256, "body_257": b"a##" * 257,
+}
+SOURCES = {name.replace("define a", "define"): source for name, source in SOURCES.items()}
+
+def answered(call, source):
+    """The listing of a call, and its numbers, line by line."""
+    listing = subprocess.run([str(ORACLE), call], input=source, stdout=subprocess.PIPE, check=True).stdout.decode()
+    return listing, [line.split(",") for line in listing.splitlines()]
+
+def row(words, *numbers):
+    return ",".join([words, *map(str, numbers)]) + "\n"
+
+def tables(rows):
+    """The numbers of the three tables."""
+    form = {"node": 1, "leaf": 0}
+    entries = [n for word, *numbers in rows if word in form for n in [form[word], *map(int, numbers)]]
+    return entries, *([int(n) for word, *numbers in rows if word == name for n in numbers] for name in ("error", "line"))
+
+def nonzero(table):
+    return sum(n != 0 for n in table)
+
+def readings(source):
+    listing, rows = answered("read", source)
+    yield "long\n" if len(source) > LONGEST else listing
+    answer, found = [int(n) for n in rows[0][1:]], tables(rows)
+    yield row("long enough", *answer, *map(nonzero, found))
+    if answer[0]:
+        yield row("none", *answer, 0, 0, 0)
+        return
+    yield row("just enough", *answer, *map(nonzero, found))
+    zeros = [0] * 6
+    yield row("entries short", 4, *zeros)
+    yield row("lines short", 6, *zeros)
+    if found[1]:
+        yield row("errors short", 5, *zeros)
+    yield row("all short", 4, *zeros)
+    yield row("none", 4, *zeros)
+    if found[1]:
+        yield row("errors and lines short", 5, *zeros)
+
+def bodies(source):
+    _, rows = answered("body", source)
+    refusal, count = [int(n) for n in rows[0][1:]]
+    yield row("body", refusal, count, nonzero(tables(rows)[0]))
+    if refusal:
+        yield row("body none", refusal, 0, 0)
+        return
+    yield row("body just enough", 0, count, nonzero(tables(rows)[0]))
+    yield row("body short", 4, 0, 0)
+
+def main():
+    (CRATE / "data").mkdir(exist_ok=True)
+    for name, source in SOURCES.items():
+        (CRATE / "data" / name).write_bytes(source)
+    (CRATE / "args").write_text("".join(f"{name}\n" for name in SOURCES))
+    (CRATE / "stdout").write_text("".join(f"{name}\n{''.join(readings(source))}{''.join(bodies(source))}" for name, source in SOURCES.items()))
+
+main()

@@ -1,0 +1,35 @@
+// A source read and shown, in the format of document 01's program `listing`; and read again with tables of all lengths that matter.
+// What is printed no contract can say: the functions that only print return nothing and promise nothing.
+pub mod lengths;
+pub mod print;
+mod table;
+
+use reading::Reading;
+ghost use lib.ListN.{length};
+ghost use Rattle.reading.specs.Promise.{Reads-source};
+
+// The longest source that is listed.
+const LONGEST: usize = 512;
+
+// Reads a source with these tables, and prints the reading.
+pub fn list(src: &[u8], entries: &mut [u32], errors: &mut [u32], lines: &mut [u32]) -> Reading
+    ensures { λ r. ⌜ Reads-source (now (src .entry)) (length (now (entries .entry))) (length (now (errors .entry))) (length (now (lines .entry))) r (now (entries .exit)) (now (errors .exit)) (now (lines .exit)) ⌝ }
+{
+    let got = shader_reader::shader_read(src, entries, errors, lines);
+    print::reading(got, entries, errors, lines);
+    got
+}
+
+// Prints the listing of a source, or that it is too long for one. n bytes have at most 2n+1 entries, n errors and n+1 lines.
+pub fn listing(src: &[u8])
+    ensures { λ _. ⌜ Unit {0} ⌝ }
+{
+    if LONGEST < src.len() {
+        print::word(b"long\n");
+        return;
+    }
+    let mut entries = table::entries();
+    let mut errors = table::errors();
+    let mut lines = table::lines();
+    list(src, &mut entries, &mut errors, &mut lines);
+}
