@@ -1,11 +1,16 @@
-# make test: the gate. make library: the static library. make tokens FILE=…: the tokens of a file.
-.PHONY: test library tokens
+# make test: the gate. make library: the static library. make tokens FILE=…: the tokens of a file. make read FILE=…: its reading.
+.PHONY: test library host tokens read
 test:
 	.ci/run
 
 library:
 	rt staticlib shader_reader
 
-tokens: library
+host: library
 	cc -O2 -Iinclude compare/host.c target/staticlib/libshader_reader.a -o target/host
-	target/host $(FILE)
+
+tokens: host
+	target/host tokens $(FILE)
+
+read: host
+	target/host read $(FILE)

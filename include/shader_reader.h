@@ -1,8 +1,8 @@
 /* The exports of libshader_reader.a, which `rt staticlib shader_reader` writes to target/staticlib.
  *
  * Every call answers on whatever it is given. A refusal of 0 means that the call was accepted; a refused call
- * has a count of 0. Every number of a lent table is written: the answer, and zeros behind it; on a refusal, zeros.
- * Pointers must not be null, even where the length is 0, and no table may overlap an input.
+ * has counts of 0. Every number of a lent table is written: the answer, and zeros behind it; on a refusal, zeros.
+ * Pointers must not be null, even where the length is 0, and no table may overlap an input or another table.
  */
 #ifndef SHADER_READER_H
 #define SHADER_READER_H
@@ -11,8 +11,24 @@
 #include <stdint.h>
 
 typedef struct { uint32_t refusal, count; } shader_counted;
+typedef struct { uint32_t refusal, entries, errors, lines; } shader_reading;
 typedef struct { uint32_t refusal, line, column; } shader_place;
 typedef struct { uint32_t refusal, kind; } shader_pasted;
+
+/* The reading of a source: its tree, its errors and its lines. The counts are of entries, errors and lines.
+ *   entry, 5 numbers, parent before children: form (0 leaf, 1 node), kind, level, start, end;
+ *   error, 10 numbers: sort (1 unknown directive, 2 extra tokens, 4 unexpected, 5 end of input), start, end, line and
+ *     column of the start, actual kind, two expected kinds, start and end of the directive's name; absent fields are 0;
+ *   line, 1 number: the offset where it starts.
+ * Tables of 5 * (2 * bytes + 1), 10 * bytes and bytes + 1 numbers are always long enough. Refusals: 1 more than
+ * 16,777,216 bytes, 2 not UTF-8, 3 more than 256 ## in a body, 4 the entry table is too short, 5 the error table,
+ * 6 the line table. */
+shader_reading shader_read(const uint8_t *src, size_t bytes, uint32_t *entries, size_t entry_room, uint32_t *errors,
+                           size_t error_room, uint32_t *lines, size_t line_room);
+
+/* The tree of a define body: what stands before the first newline. The count is of entries, 5 numbers each, without
+ * a ROOT. Refusals: 1 to 4. */
+shader_counted shader_define_body(const uint8_t *src, size_t bytes, uint32_t *entries, size_t room);
 
 /* Kind, start and end of each token; a table of 3 * bytes numbers is always long enough. The count is of tokens.
  * Refusals: 1 more than 16,777,216 bytes, 2 not UTF-8, 4 the table is too short. */
