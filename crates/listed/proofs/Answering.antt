@@ -6,7 +6,7 @@ use native.Mathlib.Omega.{arith}
 use lib.ListN.{length, take, length-take}
 use Rattle.io.specs.Counts as io
 use Rattle.definition.specs.Calls.{reading, reading-body}
-use Rattle.text.specs.Fills.{Fills}
+use Rattle.table.specs.Fills.{Fills}
 use Rattle.text.specs.declared.Counted.{Counted}
 use Rattle.reading.specs.declared.Reading.{Reading}
 use Rattle.reading.specs.Promise.{left-by, Reads-source}

@@ -1,8 +1,8 @@
 // A source read and shown, in the format of document 01's program `listing`; and read again with tables of all lengths that matter.
 // What is printed no contract can say: the functions that only print return nothing and promise nothing.
 pub mod lengths;
+mod lent;
 pub mod print;
-mod table;
 
 use reading::Reading;
 ghost use lib.ListN.{length};
@@ -28,8 +28,8 @@ pub fn listing(src: &[u8])
         print::word(b"long\n");
         return;
     }
-    let mut entries = table::entries();
-    let mut errors = table::errors();
-    let mut lines = table::lines();
+    let mut entries = lent::entries();
+    let mut errors = lent::errors();
+    let mut lines = lent::lines();
     list(src, &mut entries, &mut errors, &mut lines);
 }
