@@ -85,7 +85,11 @@ pub fn plan(plan: &mut Plan, quick: bool) {
     let times = |few: usize, many: usize| if quick { few } else { many };
 
     plan.large_kind("reading/large", "reading: about 16,777,216 bytes");
-    for source in large::directives(quick) {
+    for source in large::readings(quick) {
+        plan.job(move |checker| checker.reading(&source()));
+    }
+    plan.kind("reading/long", if quick { "reading: of 16 KB" } else { "reading: of 1 MB" });
+    for source in large::directives(times(16 << 10, 1 << 20)) {
         plan.job(move |checker| checker.reading(&source()));
     }
 

@@ -75,29 +75,21 @@ pub fn sources(quick: bool) -> Vec<Source> {
     sources
 }
 
-/// Sources to read: text, and directives and what may go wrong in them, again and again
-pub fn directives(quick: bool) -> Vec<Source> {
-    const N: usize = MAX_BYTES;
-    let mut sources: Vec<Source> = vec![
-        Box::new(|| written(N)),
-        Box::new(|| written(N + 1)),
-        Box::new(|| repeated(b"\xff", N + 1)),
-        Box::new(|| between(b"", b"#else a\n", b"\xc3", N)),
-        Box::new(|| repeated(b"#a\n", N)),
-    ];
-    if quick {
-        return sources;
-    }
+/// Directives and what may go wrong in them, again and again, in sources of that many bytes
+pub fn directives(bytes: usize) -> Vec<Source> {
+    let mut sources: Vec<Source> = Vec::new();
     for piece in [
-        "\n", "#", "#\n", "a", "a\n", " ", "\\\n", "\r\n", "#else\n", "#undef\n", "#undef a\n", "#undef 1\n",
+        "#a\n", "\n", "#", "#\n", "a", "a\n", " ", "\\\n", "\r\n", "#else\n", "#undef\n", "#undef a\n", "#undef 1\n",
         "#ifdef a b\n", "#version\n", "#version 1 a b\n", "#extension\n", "#extension a:b\n", "#extension : :\n",
         "#define a\n", "#define f(a,b)\n", "#define f(1 2 a b", "#define f(a", "#define f()##\n", "#include <a>\n",
         "#include <", "#include", "#line 1\n", "#error\n", "#pragma a\n", "#if a##b##c\n", "#elif ##\n",
         "#endif /**/ /**/\n", "#(", "#(a)", "#()\n", "(", ")", "# # #\n", "/**/#\\\n\n", "\"", "/*", "//",
         "#define a\\\n", "#un\\\ndef a\n",
     ] {
-        sources.push(Box::new(move || repeated(piece.as_bytes(), N)));
+        sources.push(Box::new(move || repeated(piece.as_bytes(), bytes)));
     }
+    let concats = format!("#define a {}\n", "a##".repeat(256));
+    sources.push(Box::new(move || repeated(concats.as_bytes(), bytes)));
     for (begin, piece, end) in [
         // A body of ## from end to end, which is refused, and rows of trivia before one
         ("#if ", "##", ""),
@@ -117,16 +109,28 @@ pub fn directives(quick: bool) -> Vec<Source> {
         ("/*", "#a\n", "*/"),
         ("a", " b", ""),
     ] {
-        sources.push(Box::new(move || between(begin.as_bytes(), piece.as_bytes(), end.as_bytes(), N)));
+        sources.push(Box::new(move || between(begin.as_bytes(), piece.as_bytes(), end.as_bytes(), bytes)));
     }
-    let concats = format!("#define a {}\n", "a##".repeat(256));
-    sources.push(Box::new(move || repeated(concats.as_bytes(), N)));
     // One body of too many, at the front and at the end
     let many = format!("#if {}\n", "##".repeat(257));
     let last = many.clone();
-    sources.push(Box::new(move || between(many.as_bytes(), b"a b\n", b"", N)));
-    sources.push(Box::new(move || between(b"", b"a b\n", last.as_bytes(), N)));
-    sources.push(Box::new(|| between(b"\x80", b"#a\n", b"", N)));
-    sources.push(Box::new(|| repeated(b"#a\n", N + 1)));
+    sources.push(Box::new(move || between(many.as_bytes(), b"a b\n", b"", bytes)));
+    sources.push(Box::new(move || between(b"", b"a b\n", last.as_bytes(), bytes)));
+    sources
+}
+
+/// Sources to read, as long as is read or one byte longer: some of those above, text, and what is not UTF-8
+pub fn readings(quick: bool) -> Vec<Source> {
+    const N: usize = MAX_BYTES;
+    let mut sources: Vec<Source> = vec![
+        Box::new(|| written(N)),
+        Box::new(|| written(N + 1)),
+        Box::new(|| repeated(b"#a\n", N + 1)),
+        // Of both refusals the first is given
+        Box::new(|| repeated(b"\xff", N + 1)),
+        Box::new(|| between(b"\x80", b"#a\n", b"", N)),
+        Box::new(|| between(b"", b"#else a\n", b"\xc3", N)),
+    ];
+    sources.extend(directives(N).into_iter().step_by(if quick { 100 } else { 3 }));
     sources
 }

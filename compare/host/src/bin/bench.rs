@@ -1,4 +1,4 @@
-//! Times the library beside the Rust: the best of five rounds, both in each.
+//! Times the library beside the Rust: the best of five rounds, both in each, in processor time.
 //!
 //!     bench [calls | reading | shapes | growth ..]   all four, if none is named
 //!     bench once CALL SHAPE BYTES                    one call, to count its instructions
@@ -6,11 +6,7 @@
 //!
 //! CALL is `read`, `tokens`, or `before` for the tokens of an earlier library.
 
-use std::{
-    hint::black_box,
-    process::exit,
-    time::{Duration, Instant},
-};
+use std::{hint::black_box, process::exit, time::Duration};
 
 use host::{
     exports,
@@ -39,14 +35,25 @@ const TOKENS_BAR: f64 = 0.97;
 /// The Rust's `pp_concat` calls itself once for each ##
 const STACK: usize = 1 << 30;
 
+/// The processor time of this thread, which other programs on the machine do not add to
+fn now() -> Duration {
+    const CLOCK_THREAD_CPUTIME_ID: i32 = 3;
+    extern "C" {
+        fn clock_gettime(clock: i32, time: *mut [i64; 2]) -> i32;
+    }
+    let mut time = [0; 2];
+    assert_eq!(unsafe { clock_gettime(CLOCK_THREAD_CPUTIME_ID, &mut time) }, 0);
+    Duration::new(time[0] as u64, time[1] as u32)
+}
+
 /// The best time of each piece of work; in each round they run one after another
 fn best<const N: usize>(mut works: [&mut dyn FnMut(); N]) -> [Duration; N] {
     let mut best = [Duration::MAX; N];
     for _ in 0..ROUNDS {
         for (best, work) in best.iter_mut().zip(&mut works) {
-            let start = Instant::now();
+            let start = now();
             work();
-            *best = start.elapsed().min(*best);
+            *best = (now() - start).min(*best);
         }
     }
     best
@@ -102,7 +109,7 @@ fn run(words: &[String]) -> i32 {
         return 2;
     }
     let mut bars = Bars::default();
-    println!("best of {ROUNDS}; tables are in memory and not cleared before a call; each call writes the whole of its tables");
+    println!("best of {ROUNDS}, processor time; tables are in memory and not cleared before a call; each call writes the whole of its tables");
     for (name, part) in parts {
         if words.is_empty() || words.contains(&name) {
             part(&mut bars);
