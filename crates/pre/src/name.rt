@@ -8,11 +8,19 @@ ghost use Rattle.definition.specs.Glue.{defined};
 ghost use Rattle.definition.specs.Unescaped.{unescaped};
 ghost use Rattle.theorems.specs.Walk.{name-kind};
 
-// Whether a text is `defined`, unescaped. It names a literal, which is made anew in each call, so it stands by itself.
+// How many letters `defined` has, and its first.
+const LETTERS: usize = 7;
+
+const FIRST: u8 = b'd';
+
+// Whether a text is `defined`, unescaped. The literal is made anew where it is named, so most texts are told from it before.
 fn is_defined(text: &[u8]) -> bool
     ensures { λ r. ⌜ r ≡ same (unescaped (now (text .entry))) defined ⌝ }
 {
-    unescaped::eq(text, b"defined")
+    if unescaped::may_be(text, LETTERS, FIRST) {
+        return unescaped::eq(text, b"defined");
+    }
+    false
 }
 
 // The kind of a token, `defined` told from other identifiers.

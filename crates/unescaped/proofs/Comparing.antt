@@ -53,15 +53,15 @@ module _ (text word : List ℕ) (i k : ℕ) (g : Comparing text word i k) where
         unfolding same
         differs p = sym (g .is ∙ rw (continuations.keeps text i h w e z, drop-cons word k 0 l, ne-eqb _ _ p))
 
--- The quick test, by the first bytes of a text and a word.
-module _ (text word : List ℕ) (l : length word ≤ length text) (b : ℕ) (e : b ≡ getD text 0 0) where
-  pub may-escape : b ≡ byte "\\" → true ≡ may-be text word
+-- The quick test, by the first byte of a text.
+module _ (text : List ℕ) (size first : ℕ) (l : size ≤ length text) (b : ℕ) (e : b ≡ getD text 0 0) where
+  pub may-escape : b ≡ byte "\\" → true ≡ may-be text size first
   unfolding may-be
   may-escape q = rw (le-ltb _ _ l, ← e, eq-eqb b (byte "\\") q)
 
-  pub may-begin : (b ≡ byte "\\" → ⊥) → (x : ℕ) → x ≡ getD word 0 0 → eqb b x ≡ may-be text word
+  pub may-begin : (b ≡ byte "\\" → ⊥) → eqb b first ≡ may-be text size first
   unfolding may-be
-  may-begin q x p = rw (le-ltb _ _ l, ← e, ne-eqb b (byte "\\") q, p)
+  may-begin q = rw (le-ltb _ _ l, ← e, ne-eqb b (byte "\\") q)
 
 -- A text that is shorter than a word, or begins with another byte that is kept, is not the word.
 shorter : (xs ys : List ℕ) → length xs < length ys → same xs ys ≡ false
@@ -78,9 +78,9 @@ begins-otherwise [] (y ∷ ys) l q e = absurd (omega arith)
 begins-otherwise (b ∷ bs) [] l q e = rw (unescaped-other b bs q)
 begins-otherwise (b ∷ bs) (y ∷ ys) l q e = rw (unescaped-other b bs q, e)
 
-pub never : (text word : List ℕ) (r : Bool) → r ≡ may-be text word → r ≡ false → false ≡ same (unescaped text) word
+pub never : (text word : List ℕ) (r : Bool) (first : ℕ) → first ≡ getD word 0 0 → r ≡ may-be text (length word) first → r ≡ false → false ≡ same (unescaped text) word
 unfolding may-be
-never text word r k z = sym (go (ltb (length text) (length word)) refl (backslash (getD text 0 0)) refl (sym k ∙ z))
+never text word r first f k z = sym (go (ltb (length text) (length word)) refl (backslash (getD text 0 0)) refl (rw f at (sym k ∙ z)))
   where
     go : (t : Bool) → ltb (length text) (length word) ≡ t → (u : Bool) → backslash (getD text 0 0) ≡ u
         → (if t then false else if u then true else eqb (getD text 0 0) (getD word 0 0)) ≡ false → same (unescaped text) word ≡ false

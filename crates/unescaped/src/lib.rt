@@ -29,18 +29,19 @@ fn continuation_at(text: &[u8], at: usize) -> usize
     w + 1
 }
 
-// Whether a text may be the word, unescaped, by its length and its first byte.
-fn may_be(text: &[u8], word: &[u8]) -> bool
-    ensures { λ r. ⌜ r ≡ may-be (now (text .entry)) (now (word .entry)) ⌝ }
+// Whether a text may be a word of so many bytes that begins with this one, unescaped. The word is told in numbers, since a literal would be made
+// anew before the test.
+pub fn may_be(text: &[u8], size: usize, first: u8) -> bool
+    ensures { λ r. ⌜ r ≡ may-be (now (text .entry)) size first ⌝ }
 {
-    if text.len() < word.len() {
+    if text.len() < size {
         return false;
     }
     let b = newline::byte_at(text, 0);
     if b == b'\\' {
         return true;
     }
-    b == newline::byte_at(word, 0)
+    b == first
 }
 
 // Whether the text, unescaped, is the word, byte by byte.
@@ -71,7 +72,7 @@ fn eq_bytes(text: &[u8], word: &[u8]) -> bool
 pub fn eq(text: &[u8], word: &[u8]) -> bool
     ensures { λ r. ⌜ r ≡ same (unescaped (now (text .entry))) (now (word .entry)) ⌝ }
 {
-    if may_be(text, word) {
+    if may_be(text, word.len(), newline::byte_at(word, 0)) {
         return eq_bytes(text, word);
     }
     false

@@ -10,5 +10,6 @@ eq-spec =
     (tie.spec
     (λ c κs. search cases)
     (λ c κs. search cases)
+    (λ c κs. search cases)
     (λ c. search cases)
     (λ c. search (never, cases)))

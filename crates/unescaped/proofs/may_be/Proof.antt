@@ -13,5 +13,4 @@ may-be-spec =
     (λ c. search cases)
     (λ c κs. search cases)
     (λ c. search (may-escape, cases))
-    (λ c κs. search cases)
     (λ c. search (may-begin, cases)))
