@@ -94,15 +94,23 @@ impl Plan {
     }
 }
 
-/// The kinds that one of the words asks for: `calls`, `reading`, or the word of one kind; all, if there is none
-pub fn plan(quick: bool, words: &[&str]) -> Plan {
+impl Kind {
+    /// Whether the word is the kind's own, or that of all calls or of all readings
+    pub fn is_asked_by(&self, word: &str) -> bool {
+        self.word == word || self.word.split('/').next() == Some(word)
+    }
+}
+
+/// The kinds that one of the words asks for; all, if there is no word; none, if a word asks for nothing
+pub fn plan(quick: bool, words: &[&str]) -> Option<Plan> {
     let mut plan = Plan::default();
     five_calls(&mut plan, quick);
     directives::plan(&mut plan, quick);
-    let asked = |kind: &Kind| words.iter().any(|&word| kind.word == word || kind.word.split('/').next() == Some(word));
-    let kinds = &plan.kinds;
-    plan.jobs.retain(|&(_, kind, _)| words.is_empty() || asked(&kinds[kind]));
-    plan
+    let Plan { kinds, jobs } = &mut plan;
+    let known = |&word: &&str| kinds.iter().any(|kind| kind.is_asked_by(word));
+    let asked = |kind: usize| words.iter().any(|word| kinds[kind].is_asked_by(word));
+    jobs.retain(|&(_, kind, _)| words.is_empty() || asked(kind));
+    words.iter().all(known).then_some(plan)
 }
 
 /// Adds the comparisons of the tokens, the line table, unescaping, lookup and pasting

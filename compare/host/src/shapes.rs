@@ -81,7 +81,7 @@ fn mixed(bytes: usize) -> Vec<u8> {
 }
 
 fn plain(bytes: usize) -> Vec<u8> {
-    shader(&mut Random(7), bytes)
+    shader(&mut Random(7), bytes, 8)
 }
 
 /// Small shaders, of 512 to 4,096 bytes each
@@ -90,7 +90,7 @@ pub fn small_files(count: usize) -> Vec<Vec<u8>> {
     (0..count)
         .map(|_| {
             let bytes = 512 + random.below(3_400);
-            let mut file = shader(&mut random, bytes);
+            let mut file = shader(&mut random, bytes, 5);
             file.truncate(4_096);
             file
         })
@@ -109,17 +109,18 @@ const CALLS: [&str; 10] =
 const WORDS: [&str; 12] =
     ["the", "light", "of", "this", "surface", "in", "view", "space", "is", "clamped", "to", "intensity"];
 
-/// A shader such as people write, of at least that many bytes
-fn shader(random: &mut Random, bytes: usize) -> Vec<u8> {
-    let mut out = String::from("#version 450\n#extension GL_ARB_shading : enable\n\n");
+/// A shader such as people write, of at least that many bytes: 3.5 bytes a leaf, and 2.5 % of the leaves in
+/// directives, as in the shaders of a test suite; for that, so many pieces in 64 are directives
+fn shader(random: &mut Random, bytes: usize, directives: usize) -> Vec<u8> {
+    let mut out = String::from("#version 450\n\n");
     while out.len() < bytes {
-        match random.below(15) {
-            0..=1 => directive(random, &mut out),
-            2..=3 => {
+        match random.below(64) {
+            n if n < directives => directive(random, &mut out),
+            0..=12 => {
                 let (number, sort, name) = (random.below(8), random.pick(&TYPES), random.pick(&NAMES));
                 out.push_str(&format!("layout(location = {number}) in {sort} {name};\n"));
             }
-            4..=7 => comment(random, &mut out),
+            13..=36 => comment(random, &mut out),
             _ => function(random, &mut out),
         }
     }
@@ -151,6 +152,10 @@ fn function(random: &mut Random, out: &mut String) {
     for _ in 0..2 + random.below(9) {
         out.push_str("    ");
         statement(random, out);
+        if random.one_in(5) {
+            out.push_str("    ");
+            comment(random, out);
+        }
     }
     out.push_str(&format!("    return {};\n}}\n", expression(random, 2)));
 }

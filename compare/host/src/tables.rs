@@ -1,4 +1,4 @@
-//! Tables to be timed with: just as long as a reading needs.
+//! Tables to be timed with: lent just as long as a reading needs.
 
 use std::hint::black_box;
 
@@ -28,9 +28,27 @@ impl Tables {
         }
     }
 
+    /// Tables with the reading of the source
+    pub fn read_once(source: &[u8]) -> Tables {
+        let mut tables = Tables::needed(source);
+        tables.read(source);
+        tables
+    }
+
+    pub fn lengths(&self) -> [usize; 3] {
+        [0, 1, 2].map(|table| self.0[table].len())
+    }
+
     /// Reads the source
     pub fn read(&mut self, source: &[u8]) {
+        self.read_with(self.lengths(), source);
+    }
+
+    /// Reads the source with as much of the tables as is said
+    pub fn read_with(&mut self, lengths: [usize; 3], source: &[u8]) {
         let [entries, errors, lines] = &mut self.0;
+        let (entries, errors, lines) =
+            (&mut entries[..lengths[0]], &mut errors[..lengths[1]], &mut lines[..lengths[2]]);
         let answer = exports::read(source, black_box(entries), black_box(errors), black_box(lines));
         assert_eq!(answer.refusal, 0);
     }

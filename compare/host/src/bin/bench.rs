@@ -170,6 +170,8 @@ fn time_reading(bars: &mut Bars) {
             files.iter().for_each(|file| calls::parse_only(black_box(std::str::from_utf8(file).unwrap())))
         }]);
     ratio(bars, "5,000 files of 0.5 to 4 KB, one call each", bytes, [ours, rust], FILES_BAR);
+    let joined = files.concat();
+    println!("    {}", Tables::read_once(&joined).described(joined.len()));
 }
 
 /// Prints the speed of both, and whether the bar is met

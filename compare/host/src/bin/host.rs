@@ -42,17 +42,22 @@ fn main() {
     let total = match words[..] {
         ["files", ref files @ ..] => compare_files(files),
         ["kinds"] => {
-            plan(true, &[]).kinds.iter().for_each(|kind| println!("{:18} {}", kind.word, kind.name));
+            plan(true, &[]).unwrap().kinds.iter().for_each(|kind| println!("{:18} {}", kind.word, kind.name));
             return;
         }
-        ["quick", ref words @ ..] => run(plan(true, words)),
-        ref words => run(plan(false, words)),
+        ["quick", ref words @ ..] => run(plan(true, words).unwrap_or_else(usage)),
+        ref words => run(plan(false, words).unwrap_or_else(usage)),
     };
     if total.inputs == 0 {
-        eprintln!("nothing was compared; host [quick] [calls | reading | KIND ..], host files FILE .., host kinds");
+        eprintln!("nothing was compared");
         exit(2);
     }
     exit((total.differences > 0) as i32);
+}
+
+fn usage() -> Plan {
+    eprintln!("host [quick] [calls | reading | KIND ..], host files FILE .., host kinds");
+    exit(2);
 }
 
 fn compare_files(files: &[&str]) -> Tally {
