@@ -77,7 +77,7 @@ module _ (s : List ℕ) (l : Lexer) (o : PreNext) (e : o ≡ pre-next (l .input)
         glue-start _ _ _ _ _ _ (rw (a .is) (pre-from s (l .input .at) (l .input .angle) (first (l .input) s) (a .inside) refl))
 
     -- which is whole, or a PERIOD, or an operator that may go on.
-    pub step-settled : (t : Bool) → t ≡ settled (r .kind) → t ≡ true → Nexts s l (Token (record { kind = r .kind; next = record { input = r .next } }))
+    pub step-settled : (t : Bool) → t ≡ settled (r .kind) → t ≡ true → Nexts s l (Token (r .kind) (record { input = r .next }))
     unfolding Nexts
     step-settled t e z = glue-settled _ _ _ _ _ _ began (settled-by (r .kind) (sym e ∙ z))
 
@@ -88,6 +88,6 @@ module _ (s : List ℕ) (l : Lexer) (o : PreNext) (e : o ≡ pre-next (l .input)
     step-operator n = record { gluing = began; other = n }
 
 pub step-stepped : (s : List ℕ) (l : Lexer) (r : Step)
-    → Stepped s (l .input .at) (l .input .angle) (r .kind) (r .next .input .at) (r .next .input .angle) → Nexts s l (Token r)
+    → Stepped s (l .input .at) (l .input .angle) (r .kind) (r .next .input .at) (r .next .input .angle) → Nexts s l (Token (r .kind) (r .next))
 unfolding Nexts
 step-stepped s l r p = p

@@ -15,7 +15,7 @@ use Rattle.glue.specs.declared.Next.the-variants.{Token, End}
 
 -- What the step from l promises: the first token of what l stands for, with what stands for the others, or the end of the source.
 unfoldable pub Nexts : List ℕ → Lexer → Next → Type 0
-Nexts s l (Token r) = Stepped s (l .input .at) (l .input .angle) (r .kind) (r .next .input .at) (r .next .input .angle)
+Nexts s l (Token kind next) = Stepped s (l .input .at) (l .input .angle) kind (next .input .at) (next .input .angle)
 Nexts s l End = length s ≤ l .input .at
 
 -- Whether nothing glues to a token of this kind.

@@ -18,15 +18,16 @@ pub struct Lexer {
     pub input: PreLexer,
 }
 
-// The kind of a token, and the state behind it, where the token ends.
-pub struct Step {
+// The kind of an operator or a number that was glued, and the state behind it, where it ends.
+struct Step {
     pub kind: u8,
     pub next: Lexer,
 }
 
-// What a step answers: a token, or the end of the source.
+// What a step answers: the kind of a token and the state behind it, where the token ends; or the end of the source. The two stand side by side: in a
+// struct of its own the kind would be read four bytes wide, which waits until the one byte, just written, has reached memory.
 pub enum Next {
-    Token(Step),
+    Token { kind: u8, next: Lexer },
     End,
 }
 
@@ -177,15 +178,19 @@ impl Lexer {
                 let k = t.kind;
                 let n = t.next;
                 if settles(k) {
-                    return Next::Token(Step {
+                    return Next::Token {
                         kind: k,
                         next: Lexer { input: n },
-                    });
+                    };
                 }
                 if k == Kind::PERIOD {
-                    return Next::Token(period(src, table, p.at, p.angle, n.at, n.angle));
+                    let q = period(src, table, p.at, p.angle, n.at, n.angle);
+                    let next = q.next;
+                    return Next::Token { kind: q.kind, next };
                 }
-                Next::Token(operator(src, table, p.at, p.angle, k, n.at, n.angle))
+                let o = operator(src, table, p.at, p.angle, k, n.at, n.angle);
+                let next = o.next;
+                Next::Token { kind: o.kind, next }
             }
         }
     }

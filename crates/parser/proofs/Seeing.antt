@@ -14,7 +14,7 @@ use Rattle.definition.specs.Calls.{longest-source}
 use Rattle.theorems.specs.Step.{Stepped}
 use Rattle.theorems.specs.LeavesFrom.{leaf-kind}
 use Rattle.theorems.proofs.LeavesFrom.{leaves-step, leaves-over, stop-between}
-use Rattle.glue.specs.declared.Step.{Step}
+use Rattle.glue.specs.declared.Lexer.{Lexer}
 use Rattle.glue.specs.declared.Next.{Next}
 use Rattle.glue.specs.declared.Next.the-variants.{Token, End}
 use Rattle.glue.specs.Next.{Nexts}
@@ -42,15 +42,15 @@ seen-step src at f k e g u j h =
     }
 
 module _ (src : List ℕ) (at : ℕ) (angle : Bool) (x : Next) (y : Nexts src (record { input = record { at = at; angle = angle } }) x) where
-  module _ (r : Step) (q : x ≡ Token r) where
-    stepped : Stepped src at angle (r .kind) (r .next .input .at) (r .next .input .angle)
+  module _ (kind : ℕ) (next : Lexer) (q : x ≡ Token kind next) where
+    stepped : Stepped src at angle kind (next .input .at) (next .input .angle)
     unfolding Nexts
     stepped = rw q at y
 
-    pub end-fits : length src ≤ longest-source → Fits w32 (r .next .input .at)
+    pub end-fits : length src ≤ longest-source → Fits w32 (next .input .at)
     end-fits h = omega (arith, stepped .within)
 
-    pub seen-token : (k : ℕ) → k ≡ leaf-kind (r .kind) → Sees src at angle (record { kind = k; start = at; end = r .next .input .at; angle = r .next .input .angle })
+    pub seen-token : (k : ℕ) → k ≡ leaf-kind kind → Sees src at angle (record { kind = k; start = at; end = next .input .at; angle = next .input .angle })
     seen-token k e = seen-step src at angle _ _ _ stepped k e
 
   pub seen-end : x ≡ End → Sees src at angle (record { kind = 0; start = at; end = at; angle = angle })

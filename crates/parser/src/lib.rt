@@ -17,13 +17,14 @@ ghost use Rattle.pre.specs.Table.{class-table};
 ghost use Rattle.tree.specs.Machine.{sheet, leafed};
 ghost use Rattle.parser.specs.Rest.{run-of, Sees, trivial, inlined, Reading, Takes};
 
-// The leaf that is seen: its kind, 0 at the end of the source, its range, and whether an angle string is expected behind it. Start and end are not
-// neighbours: a copy of both at once would wait until each, just written, has reached memory.
+// The leaf that is seen: its range, whether an angle string is expected behind it, and its kind, 0 at the end of the source. Start and end are not
+// neighbours, and the kind stands at no multiple of four: a read of more bytes than were just written at once would wait until they have reached
+// memory, and a byte at such a place is read four bytes wide.
 pub struct Seen {
     pub start: u32,
+    pub angle: bool,
     pub kind: u8,
     pub end: u32,
-    pub angle: bool,
 }
 
 // What has been read: the leaf that is seen, and where the tree writer stands.
@@ -87,12 +88,11 @@ pub fn see(src: &[u8], classes: &[u8; 256], at: u32, angle: bool) -> Seen
         },
     };
     match lexer.next(src, classes) {
-        Next::Token(step) => {
-            let next = step.next;
+        Next::Token { kind, next } => {
             let input = next.input;
             let end = input.at;
             Seen {
-                kind: leaf_kind(step.kind),
+                kind: leaf_kind(kind),
                 start: at,
                 end: end as u32,
                 angle: input.angle,

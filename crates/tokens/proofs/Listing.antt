@@ -16,7 +16,6 @@ use Rattle.theorems.specs.Step.{Stepped}
 use Rattle.table.specs.Row.{page, put, within, Laid}
 use Rattle.table.proofs.Rows.{laid-none, laid-more}
 use Rattle.glue.specs.declared.Lexer.{Lexer}
-use Rattle.glue.specs.declared.Step.{Step}
 use Rattle.glue.specs.declared.Next.{Next}
 use Rattle.glue.specs.declared.Next.the-variants.{Token, End}
 use Rattle.glue.specs.Next.{Nexts}
@@ -56,29 +55,29 @@ start s t l h = record {
 }
 
 module _ (s t₀ t : List ℕ) (l : Lexer) (i n : ℕ) (k : Listing s t₀ t l i n) where
-  module _ (x : Next) (y : Nexts s l x) (r : Step) (q : x ≡ Token r) where
-    stepped : Stepped s i (l .input .angle) (r .kind) (r .next .input .at) (r .next .input .angle)
+  module _ (x : Next) (y : Nexts s l x) (kind : ℕ) (next : Lexer) (q : x ≡ Token kind next) where
+    stepped : Stepped s i (l .input .angle) kind (next .input .at) (next .input .angle)
     unfolding Nexts
     stepped = rw (k .stands) at (rw q at y)
 
-    pub nearer : length s - r .next .input .at < length s - i
+    pub nearer : length s - next .input .at < length s - i
     nearer = omega (arith, stepped .forward, stepped .within)
 
-    pub offset-fits : length s ≤ longest-source → Fits w32 (r .next .input .at)
+    pub offset-fits : length s ≤ longest-source → Fits w32 (next .input .at)
     offset-fits b = omega (arith, stepped .within)
 
-    pub another : (t₁ : List ℕ) (n₁ w : ℕ) → w ≡ r .kind → page t₁ n₁ ≡ put (w ∷ i ∷ r .next .input .at ∷ []) (page t n)
-        → Listing s t₀ t₁ (record { input = record { at = r .next .input .at; angle = r .next .input .angle } }) (r .next .input .at) n₁
+    pub another : (t₁ : List ℕ) (n₁ w : ℕ) → w ≡ kind → page t₁ n₁ ≡ put (w ∷ i ∷ next .input .at ∷ []) (page t n)
+        → Listing s t₀ t₁ (record { input = record { at = next .input .at; angle = next .input .angle } }) (next .input .at) n₁
     another t₁ n₁ w e q =
-        let m : ℕ = r .next .input .at in
+        let m : ℕ = next .input .at in
         let row : List ℕ = w ∷ i ∷ m ∷ [] in
-        let rest : List ℕ = numbers-from (r .next .input .angle) m s in
+        let rest : List ℕ = numbers-from (next .input .angle) m s in
         record {
           stands = refl;
           within = stepped .within;
           done = k .done ++ row;
           split = append-assoc (k .done) row rest
-              ∙ rw e (ap (λ l. k .done ++ l) (sym (step-numbers s i (l .input .angle) (r .kind) m (r .next .input .angle) stepped)) ∙ k .split);
+              ∙ rw e (ap (λ l. k .done ++ l) (sym (step-numbers s i (l .input .angle) kind m (next .input .angle) stepped)) ∙ k .split);
           laid = rw q (laid-more (k .done) row (page t₀ 0) (page t n) (k .laid));
         }
 

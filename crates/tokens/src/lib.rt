@@ -37,12 +37,11 @@ fn fill(src: &[u8], t: &mut [u32]) -> usize
     let mut n: usize = 0;
     loop {
         match lexer.next(src, &classes) {
-            Next::Token(step) => {
-                let next = step.next;
+            Next::Token { kind, next } => {
                 let input = next.input;
                 let end = input.at;
                 let angle = input.angle;
-                n = put_row(t, n, &[wide(step.kind), at as u32, end as u32]);
+                n = put_row(t, n, &[wide(kind), at as u32, end as u32]);
                 lexer = Lexer {
                     input: PreLexer { at: end, angle },
                 };
