@@ -9,9 +9,8 @@ ghost use lib.ListN.{length};
 ghost use Rattle.definition.specs.LineMap.{line-starts};
 ghost use Rattle.definition.specs.Calls.{longest-source, building-lines, looking-up};
 ghost use Rattle.line_map.specs.Lookup.{looked, Looks-up};
-ghost use Rattle.line_map.specs.Quiet.{quiet-look};
+ghost use Rattle.line_map.specs.Quiet.{step, low-place, first-place, Quiet};
 ghost use Rattle.table.specs.Fills.{Fills, Written};
-ghost use Rattle.text.specs.Stretch.{gathered, step-passes, Passing};
 
 // The smaller of two bytes.
 fn smaller(a: u8, b: u8) -> u8
@@ -27,51 +26,42 @@ fn smaller(a: u8, b: u8) -> u8
 const QUIET: u8 = 14;
 
 // How many bytes are looked at together.
-const STEP: usize = 16;
+const STEP: usize = 128;
 
-// The smallest of the STEP bytes at a place.
-fn smallest(src: &[u8], at: usize) -> u8
-    requires { ⌜ at + quiet-look .size ≤ length (now src) ⌝ }
-    ensures { λ r. ⌜ r ≡ gathered quiet-look (quiet-look .size) at (now (src .entry)) ⌝ }
+// Stands for no place of a step.
+const NOWHERE: u8 = 255;
+
+// The place of a byte where it may begin a newline.
+fn low_at(b: u8, k: u8) -> u8
+    ensures { λ r. ⌜ r ≡ low-place b k ⌝ }
 {
-    let mut m: u8 = 255;
+    if b < QUIET {
+        return k;
+    }
+    NOWHERE
+}
+
+// Where the first of the STEP bytes at a place stands that may begin a newline, counted from there. Each byte is looked at, and nothing is decided between
+// them: a compiler looks at many together.
+fn first_low(src: &[u8], at: usize) -> u8
+    requires { ⌜ at + step ≤ length (now src) ⌝ }
+    ensures { λ r. ⌜ r ≡ first-place step at (now (src .entry)) ⌝ }
+{
+    let mut m = NOWHERE;
     let mut k: usize = 0;
     while k < STEP {
-        m = smaller(m, src[at + k]);
+        m = smaller(m, low_at(src[at + k], k as u8));
         k += 1;
     }
     m
 }
 
-// Whether STEP bytes stand at a place of which none begins a newline.
-fn all_quiet(src: &[u8], at: usize) -> bool
+// Behind the bytes at a place that begin no newline, up to one that may, byte by byte.
+fn last_low(src: &[u8], at: usize) -> usize
     requires { ⌜ at ≤ length (now src) ⌝ }
-    ensures { λ r. ⌜ r ≡ step-passes quiet-look (now (src .entry)) at ⌝ }
-{
-    if src.len() - at < STEP {
-        return false;
-    }
-    QUIET <= smallest(src, at)
-}
-
-// Behind the steps at a place in which no newline begins.
-fn pass_steps(src: &[u8], at: usize) -> usize
-    requires { ⌜ at ≤ length (now src) ⌝ }
-    ensures { λ r. ⌜ Passing quiet-look (now (src .entry)) at r ⌝ }
+    ensures { λ r. ⌜ Quiet (now (src .entry)) at r ⌝ }
 {
     let mut i = at;
-    while all_quiet(src, i) {
-        i += STEP;
-    }
-    i
-}
-
-// Behind the bytes at a place that begin no newline, up to one that may.
-fn next_low(src: &[u8], at: usize) -> usize
-    requires { ⌜ at ≤ length (now src) ⌝ }
-    ensures { λ r. ⌜ Passing quiet-look (now (src .entry)) at r ⌝ }
-{
-    let mut i = pass_steps(src, at);
     while i < src.len() {
         if src[i] < QUIET {
             return i;
@@ -79,6 +69,22 @@ fn next_low(src: &[u8], at: usize) -> usize
         i += 1;
     }
     i
+}
+
+// Behind the bytes at a place that begin no newline, up to one that may.
+fn next_low(src: &[u8], at: usize) -> usize
+    requires { ⌜ at ≤ length (now src) ⌝ }
+    ensures { λ r. ⌜ Quiet (now (src .entry)) at r ⌝ }
+{
+    let mut i = at;
+    while STEP <= src.len() - i {
+        let k = first_low(src, i) as usize;
+        if k < STEP {
+            return i + k;
+        }
+        i += STEP;
+    }
+    last_low(src, i)
 }
 
 // Writes the line starts into a table, as far as it goes, and counts them all.
@@ -91,7 +97,11 @@ pub fn fill(src: &[u8], lines: &mut [u32]) -> usize
     let mut i = 0;
     while i < src.len() {
         let w = newline::newline_at(src, i);
-        if w == 0 {
+        if w < 2 {
+            if w == 1 {
+                table::put(lines, n, (i + 1) as u32);
+                n += 1;
+            }
             i = next_low(src, i + 1);
         } else {
             i += w;

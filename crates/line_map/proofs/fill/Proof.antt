@@ -1,9 +1,10 @@
 -- `fill` writes the line starts as far as the table goes, and counts them.
 use Prim.Native.Nat.{_-_}
 use native.Mathlib.Omega.{arith}
+use mathlib.Core.Logic.{⊎-elim}
 use lib.ListN.{length}
 use Rattle.text.proofs.Cases.{cases}
-use Rattle.line_map.proofs.Filling.{Filling, start, other, another, further, nearer, offset-fits, kept, done}
+use Rattle.line_map.proofs.Filling.{Filling, start, other-over, another-over, another-two, further, nearer, offset-fits, kept, done}
 use Rattle.line_map.proofs.fill.Statement.{statement}
 use Rattle.line_map.proofs.fill.Tie as tie
 
@@ -23,14 +24,20 @@ fill-spec =
     (λ c. start _ _)
     (λ c κs. search cases)
     (λ c. search cases)
+    (λ c. search cases)
     (λ c κs. search cases)
     (λ c. search cases)
-    (λ c. search (other, c .before .before .before .before .before .before .before .before .before .before .shared-slice-known .given, cases))
+    (λ c. search cases)
+    (λ c κs. search cases)
+    (λ c. search cases)
+    (λ c.
+    let known = c .before .before .before .before .before .before .before .before .before .before .before .shared-slice-known .given in
+    ⊎-elim (λ w. search (another-over, known, cases)) (λ w. search (other-over, known, cases)) (c .before .if2 .came))
     (λ c. search (further, cases))
     (λ c. search (offset-fits, cases))
     (λ c κs. search cases)
     (λ c. search cases)
     (λ c. search (nearer, cases))
-    (λ c. search (another, cases))
+    (λ c. search (another-two, cases))
     (λ c. omega (arith, kept _ _ _ _ _ (c .before .loop .inv)))
     (λ c. search (done, cases)))

@@ -1,0 +1,30 @@
+-- `first_low` looks at the bytes of a step one after another.
+use Prim.Native.Nat.{_-_}
+use Rattle.text.proofs.Cases.{cases}
+use Rattle.line_map.specs.Quiet.{step}
+use Rattle.line_map.proofs.Quiets.{Looking, look-none, look-more, look-all}
+use Rattle.line_map.proofs.first_low.Statement.{statement}
+use Rattle.line_map.proofs.first_low.Tie as tie
+
+abbrev Inv-loop : tie.InvT-loop
+Inv-loop src at m₀ k₀ m k = Looking src at k m
+
+abbrev μ-loop : tie.MeasureT-loop
+μ-loop src at m₀ k₀ m k = step - k
+
+pub first-low-spec : {M : Type 1} → statement M
+first-low-spec =
+    tie.close
+    (tie.spec
+    Inv-loop
+    μ-loop
+    (λ c. look-none _ _)
+    (λ c. search cases)
+    (λ c. search cases)
+    (λ c. search cases)
+    (λ c κs. search cases)
+    (λ c κs. search cases)
+    (λ c. search cases)
+    (λ c. search cases)
+    (λ c. search (look-more, cases))
+    (λ c. search (look-all, cases)))
