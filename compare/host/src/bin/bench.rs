@@ -164,9 +164,11 @@ fn time_reading(bars: &mut Bars) {
     }
     let files = shapes::small_files(FILES);
     let bytes = files.iter().map(Vec::len).sum();
-    let mut tables: Vec<Tables> = files.iter().map(|file| Tables::needed(file)).collect();
+    // One memory is lent for all files, of each table just as much as the file needs; the Rust's allocator gives it the same memory again too.
+    let lengths: Vec<[usize; 3]> = files.iter().map(|file| Tables::needed(file).lengths()).collect();
+    let mut tables = Tables::of([0, 1, 2].map(|table| lengths.iter().map(|file| file[table]).max().unwrap()));
     let [ours, rust] =
-        best([&mut || files.iter().zip(&mut tables).for_each(|(file, tables)| tables.read(file)), &mut || {
+        best([&mut || files.iter().zip(&lengths).for_each(|(file, &lengths)| tables.read_with(lengths, file)), &mut || {
             files.iter().for_each(|file| calls::parse_only(black_box(std::str::from_utf8(file).unwrap())))
         }]);
     ratio(bars, "5,000 files of 0.5 to 4 KB, one call each", bytes, [ours, rust], FILES_BAR);
