@@ -6,3 +6,4 @@ pub mod Froms
 pub mod Absorbs
 pub mod Scans
 pub mod Strings
+pub mod Passings

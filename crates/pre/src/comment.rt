@@ -3,10 +3,13 @@ use crate::class::Class;
 use crate::token::Token;
 use syntax_kind::kind::Kind;
 ghost use mathlib.Core.Path.{_≡_};
-ghost use lib.ListN.{drop};
+ghost use Prim.Native.Nat.{_+_, _≤_, max};
+ghost use lib.ListN.{length, drop};
 ghost use Rattle.definition.specs.Pre as state;
 ghost use Rattle.pre.specs.Table.{class-table};
 ghost use Rattle.pre.specs.Scan.{from, width-at};
+ghost use Rattle.pre.specs.Passes.{Passes, loud-mark, star-mark, loud-look, star-look};
+ghost use Rattle.text.specs.Stretch.{gathered, step-passes};
 
 // How many bytes to pass with the character at `at`: those of a newline, else its first byte.
 fn width_at(src: &[u8], at: usize) -> usize
@@ -19,12 +22,79 @@ fn width_at(src: &[u8], at: usize) -> usize
     w
 }
 
+// The larger of two marks.
+fn larger(a: u8, b: u8) -> u8
+    ensures { λ r. ⌜ r ≡ max a b ⌝ }
+{
+    if a < b {
+        return b;
+    }
+    a
+}
+
+// How many bytes are looked at together. Each of them is marked, and nothing is decided between them: a compiler looks at all of them together.
+const STEP: usize = 16;
+
+// Bytes below this may begin a newline; no other byte does.
+const QUIET: u8 = 14;
+
+// 1 for a byte that may end or bend a single-line comment, else 0.
+fn loud(c: u8) -> u8
+    ensures { λ r. ⌜ r ≡ loud-mark c ⌝ }
+{
+    if c < QUIET {
+        return 1;
+    }
+    if c == b'\\' {
+        return 1;
+    }
+    0
+}
+
+// The largest mark of the STEP bytes at a place.
+fn loudest(src: &[u8], at: usize) -> u8
+    requires { ⌜ at + loud-look .size ≤ length (now src) ⌝ }
+    ensures { λ r. ⌜ r ≡ gathered loud-look (loud-look .size) at (now (src .entry)) ⌝ }
+{
+    let mut m: u8 = 0;
+    let mut k: usize = 0;
+    while k < STEP {
+        m = larger(m, loud(src[at + k]));
+        k += 1;
+    }
+    m
+}
+
+// Whether STEP bytes stand at a place that all go on with a single-line comment.
+fn all_quiet(src: &[u8], at: usize) -> bool
+    ensures { λ r. ⌜ r ≡ step-passes loud-look (now (src .entry)) at ⌝ }
+{
+    if src.len() < STEP {
+        return false;
+    }
+    if src.len() - STEP < at {
+        return false;
+    }
+    loudest(src, at) == 0
+}
+
+// Behind the bytes at a place that go on with a single-line comment, in whole steps.
+fn pass_quiet(src: &[u8], at: usize) -> usize
+    ensures { λ r. ⌜ Passes state.single-comment (now (src .entry)) at r ⌝ }
+{
+    let mut i = at;
+    while all_quiet(src, i) {
+        i += STEP;
+    }
+    i
+}
+
 // The rest of a single-line comment, from `at` on: a backslash takes the next character.
 pub fn single_comment(src: &[u8], table: &[u8; 256], at: usize) -> Token
     requires { ⌜ now table ≡ class-table ⌝ }
     ensures { λ r. ⌜ r ≡ from state.single-comment 0 at (now (src .entry)) ⌝ }
 {
-    let mut i = at;
+    let mut i = pass_quiet(src, at);
     while i < src.len() {
         let b = src[i];
         if crate::class::class_of(table, b) == Class::NEWLINE {
@@ -52,11 +122,59 @@ pub fn single_comment(src: &[u8], table: &[u8; 256], at: usize) -> Token
     }
 }
 
+// 1 for a star, else 0.
+fn star(c: u8) -> u8
+    ensures { λ r. ⌜ r ≡ star-mark c ⌝ }
+{
+    if c == b'*' {
+        return 1;
+    }
+    0
+}
+
+// The largest mark of the STEP bytes at a place.
+fn starriest(src: &[u8], at: usize) -> u8
+    requires { ⌜ at + star-look .size ≤ length (now src) ⌝ }
+    ensures { λ r. ⌜ r ≡ gathered star-look (star-look .size) at (now (src .entry)) ⌝ }
+{
+    let mut m: u8 = 0;
+    let mut k: usize = 0;
+    while k < STEP {
+        m = larger(m, star(src[at + k]));
+        k += 1;
+    }
+    m
+}
+
+// Whether STEP bytes stand at a place, and no star.
+fn no_star(src: &[u8], at: usize) -> bool
+    ensures { λ r. ⌜ r ≡ step-passes star-look (now (src .entry)) at ⌝ }
+{
+    if src.len() < STEP {
+        return false;
+    }
+    if src.len() - STEP < at {
+        return false;
+    }
+    starriest(src, at) == 0
+}
+
+// Behind the bytes at a place that are no stars, in whole steps.
+fn pass_no_star(src: &[u8], at: usize) -> usize
+    ensures { λ r. ⌜ Passes state.multi-comment (now (src .entry)) at r ⌝ }
+{
+    let mut i = at;
+    while no_star(src, i) {
+        i += STEP;
+    }
+    i
+}
+
 // The rest of a comment, from `at` on: a star takes the next character.
 pub fn multi_comment(src: &[u8], at: usize) -> Token
     ensures { λ r. ⌜ r ≡ from state.multi-comment 0 at (now (src .entry)) ⌝ }
 {
-    let mut i = at;
+    let mut i = pass_no_star(src, at);
     while i < src.len() {
         if src[i] == b'*' {
             if src.len() <= i + 1 {
@@ -71,7 +189,7 @@ pub fn multi_comment(src: &[u8], at: usize) -> Token
                     end: i + 2,
                 };
             }
-            i += 2;
+            i = pass_no_star(src, i + 2);
         } else {
             i += 1;
         }

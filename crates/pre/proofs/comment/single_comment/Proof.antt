@@ -19,6 +19,7 @@ use Rattle.text.proofs.Newlines as newlines
 use Rattle.text.proofs.Cases.{cases}
 use Rattle.pre.specs.Table.{ClassNumber, class-number}
 use Rattle.pre.specs.Scan.{from, width-at}
+use Rattle.pre.specs.Passes.{Passes}
 use Rattle.pre.proofs.Classes.{closed-is, no-newline}
 use Rattle.pre.proofs.States.{single-goes, single-stops}
 use Rattle.pre.proofs.Froms.{token, from-more, behind-newline}
@@ -29,6 +30,9 @@ use Rattle.pre.proofs.comment.single_comment.Tie as tie
 
 abbrev escaped : State
 escaped = backslash in-comment
+
+begun : (s : List ℕ) (at i : ℕ) → Passes single-comment s at i → Same s single-comment at single-comment i
+begun s at i k = record { is = k .is }
 
 module _ (s : List ℕ) (at i : ℕ) (k : Same s single-comment at single-comment i) where
   ended : length s ≤ i → token Kind.COMMENT i ≡ from single-comment 0 at s
@@ -101,7 +105,8 @@ single-comment-spec =
     (tie.spec
     Inv-loop
     μ-loop
-    (λ c. record { is = refl })
+    (λ c κs. search cases)
+    (λ c. search (begun, cases))
     (λ c. search cases)
     (λ c κs. search cases)
     (λ c. search (stops, cases))
