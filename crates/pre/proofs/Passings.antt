@@ -7,7 +7,7 @@ use mathlib.Core.Bool.{Bool, true, false, and-eq-true-iff}
 use mathlib.Core.List.{List}
 use mir.Val.{Fits}
 use mir.Syntax.{w8}
-use borrow.Author.Tests.{leb-true, lt-leb, eqb-true, eqb-false, ltb-true, ltb-false, lt-ltb, le-ltb, eq-eqb, ne-eqb}
+use borrow.Author.Tests.{leb-true, lt-leb, eqb-true, ltb-false, lt-ltb, le-ltb, eq-eqb, ne-eqb}
 use lib.Dec.{leb, ltb, eqb}
 use lib.ListN.{length, getD}
 use Rattle.definition.specs.Text.{byte}
@@ -96,9 +96,6 @@ module _ (f : ℕ → ℕ) (s : List ℕ) (at : ℕ) where
   pub late : length s - look .size < at → false ≡ step-passes look s at
   unfolding step-passes
   late h = rw (lt-leb (at + look .size) (length s) (omega arith))
-
-  pub room : look .size ≤ length s → at ≤ length s - look .size → at + look .size ≤ length s
-  room g h = omega arith
 
   pub tested : (m : ℕ) → look .size ≤ length s → at ≤ length s - look .size → m ≡ gathered look (look .size) at s → eqb m 0 ≡ step-passes look s at
   tested m g h e = step-tested look s at m (omega arith) (omega arith) e

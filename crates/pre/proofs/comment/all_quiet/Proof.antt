@@ -1,7 +1,7 @@
 -- `all_quiet` looks at the largest mark of a step of bytes.
 use Rattle.pre.specs.Passes.{loud-mark}
 use Rattle.text.proofs.Cases.{cases}
-use Rattle.pre.proofs.Passings.{few, late, room, tested}
+use Rattle.pre.proofs.Passings.{few, late, tested}
 use Rattle.pre.proofs.comment.all_quiet.Statement.{statement}
 use Rattle.pre.proofs.comment.all_quiet.Tie as tie
 

@@ -1,7 +1,7 @@
 -- `no_star` looks at the largest mark of a step of bytes.
 use Rattle.pre.specs.Passes.{star-mark}
 use Rattle.text.proofs.Cases.{cases}
-use Rattle.pre.proofs.Passings.{few, late, room, tested}
+use Rattle.pre.proofs.Passings.{few, late, tested}
 use Rattle.pre.proofs.comment.no_star.Statement.{statement}
 use Rattle.pre.proofs.comment.no_star.Tie as tie
 
