@@ -16,7 +16,7 @@ ghost use Rattle.parser.specs.Rest.{Sees, Reading, unread};
 ghost use Rattle.text_lines.specs.Lines.{Alone, Single, Quick, Begins, Shown, Going, Lined};
 
 // Whether a character of class c is a token alone, whatever follows: [ ] ( ) { } ~ : ; , ?
-fn single(c: u8) -> bool
+pub fn single(c: u8) -> bool
     ensures { λ r. ⌜ (r ≡ true → Single c) ⌝ }
 {
     if c < Kind::LBRACKET {

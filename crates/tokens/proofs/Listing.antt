@@ -16,6 +16,8 @@ use Rattle.theorems.specs.Step.{Stepped}
 use Rattle.table.specs.Row.{page, put, within, Laid}
 use Rattle.table.proofs.Rows.{laid-none, laid-more}
 use Rattle.glue.specs.declared.Lexer.{Lexer}
+use Rattle.pre.specs.declared.token.Token as pre
+use Rattle.text_lines.specs.Lines.{Quick}
 use Rattle.glue.specs.declared.Next.{Next}
 use Rattle.glue.specs.declared.Next.the-variants.{Token, End}
 use Rattle.glue.specs.Next.{Nexts}
@@ -37,49 +39,64 @@ step-numbers : (s : List ℕ) (i : ℕ) (f : Bool) (k e : ℕ) (g : Bool) → St
 unfolding token-numbers
 step-numbers s i f k e g p = rw (p .is, ← p .end-is, p .kind-is)
 
--- Where the lexer stands in the loop: at this place, with the numbers of the tokens before it laid.
-pub record Listing (s t₀ t : List ℕ) (l : Lexer) (i n : ℕ) : Type 0 where
-  pub stands : l .input .at ≡ i
+-- Where the loop stands: at this place, an angle string expected or not, with the numbers of the tokens before it laid.
+pub record Listing (s t₀ t : List ℕ) (f : Bool) (i n : ℕ) : Type 0 where
   pub within : i ≤ length s
   pub done : List ℕ
-  pub split : done ++ numbers-from (l .input .angle) i s ≡ numbers-from false 0 s
+  pub split : done ++ numbers-from f i s ≡ numbers-from false 0 s
   pub laid : Laid done (page t₀ 0) (page t n)
 
-pub start : (s t : List ℕ) (l : Lexer) → (l .input .at ≡ 0) × (l .input .angle ≡ false) → Listing s t t l 0 0
-start s t l h = record {
-  stands = h .0;
-  within = omega arith;
-  done = [];
-  split = rw (h .1);
-  laid = laid-none (page t 0) (within (omega arith));
-}
+pub start : (s t : List ℕ) → Listing s t t false 0 0
+start s t = record { within = omega arith; done = []; split = refl; laid = laid-none (page t 0) (within (omega arith)) }
 
-module _ (s t₀ t : List ℕ) (l : Lexer) (i n : ℕ) (k : Listing s t₀ t l i n) where
-  module _ (x : Next) (y : Nexts s l x) (kind : ℕ) (next : Lexer) (q : x ≡ Token kind next) where
-    stepped : Stepped s i (l .input .angle) kind (next .input .at) (next .input .angle)
+module _ (s t₀ t : List ℕ) (f : Bool) (i n : ℕ) (k : Listing s t₀ t f i n) where
+  -- One token more.
+  module _ {kind e : ℕ} {g : Bool} (u : Stepped s i f kind e g) where
+    nearer-by : length s - e < length s - i
+    nearer-by = omega (arith, u .forward, u .within)
+
+    fits-by : length s ≤ longest-source → Fits w32 e
+    fits-by b = omega (arith, u .within)
+
+    another-by : (t₁ : List ℕ) (n₁ w : ℕ) → w ≡ kind → page t₁ n₁ ≡ put (w ∷ i ∷ e ∷ []) (page t n) → Listing s t₀ t₁ g e n₁
+    another-by t₁ n₁ w q p =
+        let row : List ℕ = w ∷ i ∷ e ∷ [] in
+        record {
+          within = u .within;
+          done = k .done ++ row;
+          split = append-assoc (k .done) row (numbers-from g e s) ∙ rw q (ap (λ l. k .done ++ l) (sym (step-numbers s i f kind e g u)) ∙ k .split);
+          laid = rw p (laid-more (k .done) row (page t₀ 0) (page t n) (k .laid));
+        }
+
+  -- It is seen at once,
+  module _ (x : pre.Token) (y : Quick s i x) (z : 0 < x .kind) where
+    quickly : Stepped s i f (x .kind) (x .end) f
+    quickly = y .step (λ e. omega arith) f
+
+    pub quick-nearer : length s - x .end < length s - i
+    quick-nearer = nearer-by quickly
+
+    pub quick-fits : length s ≤ longest-source → Fits w32 (x .end)
+    quick-fits = fits-by quickly
+
+    pub quick-another : (t₁ : List ℕ) (n₁ w : ℕ) → w ≡ x .kind → page t₁ n₁ ≡ put (w ∷ i ∷ x .end ∷ []) (page t n) → Listing s t₀ t₁ f (x .end) n₁
+    quick-another = another-by quickly
+
+  -- or the lexer takes a step.
+  module _ (x : Next) (y : Nexts s (record { input = record { at = i; angle = f } }) x) (kind : ℕ) (next : Lexer) (q : x ≡ Token kind next) where
+    stepped : Stepped s i f kind (next .input .at) (next .input .angle)
     unfolding Nexts
-    stepped = rw (k .stands) at (rw q at y)
+    stepped = rw q at y
 
     pub nearer : length s - next .input .at < length s - i
-    nearer = omega (arith, stepped .forward, stepped .within)
+    nearer = nearer-by stepped
 
     pub offset-fits : length s ≤ longest-source → Fits w32 (next .input .at)
-    offset-fits b = omega (arith, stepped .within)
+    offset-fits = fits-by stepped
 
     pub another : (t₁ : List ℕ) (n₁ w : ℕ) → w ≡ kind → page t₁ n₁ ≡ put (w ∷ i ∷ next .input .at ∷ []) (page t n)
-        → Listing s t₀ t₁ (record { input = record { at = next .input .at; angle = next .input .angle } }) (next .input .at) n₁
-    another t₁ n₁ w e q =
-        let m : ℕ = next .input .at in
-        let row : List ℕ = w ∷ i ∷ m ∷ [] in
-        let rest : List ℕ = numbers-from (next .input .angle) m s in
-        record {
-          stands = refl;
-          within = stepped .within;
-          done = k .done ++ row;
-          split = append-assoc (k .done) row rest
-              ∙ rw e (ap (λ l. k .done ++ l) (sym (step-numbers s i (l .input .angle) kind m (next .input .angle) stepped)) ∙ k .split);
-          laid = rw q (laid-more (k .done) row (page t₀ 0) (page t n) (k .laid));
-        }
+        → Listing s t₀ t₁ (next .input .angle) (next .input .at) n₁
+    another = another-by stepped
 
   pub place-fits : length s ≤ longest-source → Fits w32 i
   place-fits b = omega (arith, k .within)
@@ -87,9 +104,12 @@ module _ (s t₀ t : List ℕ) (l : Lexer) (i n : ℕ) (k : Listing s t₀ t l i
   pub kept : length t ≡ length t₀
   kept = k .laid .long-kept
 
-  pub done : (x : Next) → Nexts s l x → x ≡ End → Laid (numbers-from false 0 s) (page t₀ 0) (page t n)
-  unfolding Nexts
-  done x y q =
-      let h : length s ≤ i = rw (k .stands) at (rw q at y) in
-      let e : k .done ≡ numbers-from false 0 s = sym (append-nil (k .done)) ∙ ap (λ l. k .done ++ l) (sym (none-behind (l .input .angle) i s h)) ∙ k .split in
+  -- Nothing is left.
+  pub ended : length s ≤ i → Laid (numbers-from false 0 s) (page t₀ 0) (page t n)
+  ended h =
+      let e : k .done ≡ numbers-from false 0 s = sym (append-nil (k .done)) ∙ ap (λ l. k .done ++ l) (sym (none-behind f i s h)) ∙ k .split in
       rw (← e) (k .laid)
+
+  pub done : (x : Next) → Nexts s (record { input = record { at = i; angle = f } }) x → x ≡ End → Laid (numbers-from false 0 s) (page t₀ 0) (page t n)
+  unfolding Nexts
+  done x y q = ended (rw q at y)
