@@ -20,9 +20,9 @@ typedef struct { uint32_t refusal, kind; } shader_pasted;
  *   error, 10 numbers: sort (1 unknown directive, 2 extra tokens, 4 unexpected, 5 end of input), start, end, line and
  *     column of the start, actual kind, two expected kinds, start and end of the directive's name; absent fields are 0;
  *   line, 1 number: the offset where it starts.
- * Tables of 5 * (2 * bytes + 1), 10 * bytes and bytes + 1 numbers are always long enough. Refusals: 1 more than
- * 16,777,216 bytes, 2 not UTF-8, 3 more than 256 ## in a body, 4 the entry table is too short, 5 the error table,
- * 6 the line table. */
+ * Tables of 5 * (8 * bytes + 1), 80 * bytes and bytes + 1 numbers are always long enough, which is proved; in every
+ * run 5 * (2 * bytes + 1) and 10 * bytes were. Refusals: 1 more than 16,777,216 bytes, 2 not UTF-8, 3 more than
+ * 256 ## in a body, 4 the entry table is too short, 5 the error table, 6 the line table. */
 shader_reading shader_read(const uint8_t *src, size_t bytes, uint32_t *entries, size_t entry_room, uint32_t *errors,
                            size_t error_room, uint32_t *lines, size_t line_room);
 
