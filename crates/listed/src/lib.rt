@@ -20,7 +20,8 @@ pub fn list(src: &[u8], entries: &mut [u32], errors: &mut [u32], lines: &mut [u3
     got
 }
 
-// Prints the listing of a source, or that it is too long for one. n bytes have at most 2n+1 entries, n errors and n+1 lines.
+// Prints the listing of a source, or that it is too long for one. In every run n bytes had at most 2n+1 entries and
+// n errors, which is not proved: a reading that needed more would be refused and listed as such.
 pub fn listing(src: &[u8])
     ensures { λ _. ⌜ Unit {0} ⌝ }
 {
