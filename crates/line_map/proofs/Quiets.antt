@@ -1,10 +1,8 @@
 -- Bytes that begin no newline are passed over.
-use Prim.Native.Nat.{ℕ, zero, suc, _+_, _-_, _≤_, _<_, min}
-use native.Mathlib.Decide.{decLt}
-use native.Mathlib.Numerals.{add-one}
+use Prim.Native.Nat.{ℕ, _+_, _-_, _≤_, _<_}
 use native.Mathlib.Omega.{arith}
-use mathlib.Core.Path.{_≡_, refl, _∙_}
-use mathlib.Core.Bool.{Bool, true, false}
+use mathlib.Core.Path.{_≡_}
+use mathlib.Core.Bool.{true, false}
 use mathlib.Core.List.{List}
 use borrow.Author.Tests.{leb-true, le-leb, lt-leb, ne-eqb}
 use mir.Val.{Fits}
@@ -12,74 +10,30 @@ use mir.Syntax.{w8}
 use lib.Dec.{leb}
 use lib.ListN.{length, getD}
 use Rattle.definition.specs.Newline.{LF, CR, CRLF, newline}
+use Rattle.text.specs.Stretch.{nowhere, place-of, first-place}
 use Rattle.text.proofs.Stretches.{stretch-join, stretch-same}
-use Rattle.line_map.specs.Quiet.{quiet, Quiet, step, nowhere, low-place, first-place}
+use Rattle.text.proofs.Places.{place-here, place-nowhere, look-over}
+use Rattle.line_map.specs.Quiet.{quiet, is-quiet, Quiet, step}
 use Rattle.line_map.proofs.Ends.{ends-from, none-at}
 
 -- The place of one byte.
 module _ (b k : ℕ) where
-  pub low-here : b < quiet → k ≡ low-place b k
-  unfolding low-place
-  low-here h = rw (lt-leb quiet b h)
+  pub low-here : b < quiet → k ≡ place-of is-quiet b k
+  low-here h = place-here is-quiet b k (lt-leb quiet b h)
 
-  pub low-nowhere : quiet ≤ b → nowhere ≡ low-place b k
-  unfolding low-place
-  low-nowhere h = rw (le-leb quiet b h)
-
-  low-behind : k < low-place b k → leb quiet b ≡ true
-  unfolding low-place
-  low-behind = go (leb quiet b) refl
-    where
-      go : (t : Bool) → leb quiet b ≡ t → k < low-place b k → leb quiet b ≡ true
-      go true e h = e
-      go false e h = absurd (let l : k < k = rw e at h in omega arith)
-
-module _ (s : List ℕ) (at : ℕ) where
-  -- The first k bytes of a step are looked at.
-  pub record Looking (k m : ℕ) : Type 0 where
-    pub few : k ≤ step
-    pub is : m ≡ first-place k at s
-
-  pub look-none : Looking 0 nowhere
-  unfolding first-place
-  look-none = record { few = omega arith; is = refl }
-
-  pub look-more : (k m l r : ℕ) → Looking k m → k < step → l ≡ low-place (getD s (at + k) 0) k → r ≡ min m l → Looking (k + 1) r
-  unfolding first-place
-  look-more k m l r h n e q = record { few = omega arith; is = rw (add-one k) (q ∙ rw (h .is, e)) }
-
-  pub look-all : (k m : ℕ) → Looking k m → step ≤ k → m ≡ first-place step at s
-  look-all k m h n = let e : k ≡ step = omega (arith, h .few) in rw e at (h .is)
-
-  -- Before the first place every byte is quiet.
-  before-first : (n j : ℕ) → j < n → j < first-place n at s → leb quiet (getD s (at + j) 0) ≡ true
-  unfolding first-place
-  before-first zero j h l = absurd (omega arith)
-  before-first (suc n) j h l = elim (decLt j n) [
-    | yes k ↦ before-first n j k (omega arith)
-    | no k ↦
-        let e : j ≡ n = omega arith in
-        let p : n < low-place (getD s (at + n) 0) n = omega arith in
-        rw e (low-behind (getD s (at + n) 0) n p)
-  ]
+  pub low-nowhere : quiet ≤ b → nowhere ≡ place-of is-quiet b k
+  low-nowhere h = place-nowhere is-quiet b k (le-leb quiet b h)
 
 -- A step is passed over, up to a place in it or whole.
-module _ (s : List ℕ) (from at m : ℕ) (k : Quiet s from at) (h : step ≤ length s - at) (e : m ≡ first-place step at s) where
-  step-quiet : (n : ℕ) → n ≤ step → n ≤ m → Quiet s at (at + n)
-  step-quiet n a b = record {
-    forward = omega arith;
-    within = omega (arith, k .within);
-    each = λ i p q.
-        let t : at + (i - at) ≡ i = omega arith in
-        let l : i - at < m = omega arith in
-        rw t at (before-first s at step (i - at) (omega arith) (rw e at l));
-  }
+module _ (s : List ℕ) (from at m : ℕ) (k : Quiet s from at) (h : step ≤ length s - at) (e : m ≡ first-place is-quiet step at s) where
+  over : (n : ℕ) → n ≤ step → n ≤ m → Quiet s from (at + n)
+  over n a b = stretch-join s from at (at + n) k (look-over is-quiet step s at m (omega (arith, k .within)) e n a b)
 
   pub step-part : m < step → Quiet s from (at + m)
-  step-part l = stretch-join s from at (at + m) k (step-quiet m (omega arith) (omega arith))
+  step-part l = over m (omega arith) (omega arith)
 
   pub step-whole : step ≤ m → Quiet s from (at + step)
-  step-whole l = stretch-join s from at (at + step) k (step-quiet step (omega arith) l)
+  step-whole l = over step (omega arith) l
 
 -- So no newline begins in a stretch of quiet bytes.
 quiet-byte : (b : ℕ) → Fits w8 b → leb quiet b ≡ true → newline b ≡ false

@@ -3,37 +3,29 @@ use text::Counted;
 use text::newline;
 use text::refusal::Refusal;
 use text::source;
+use text::stretch;
 ghost use mathlib.Core.Path.{_≡_};
-ghost use Prim.Native.Nat.{_+_, _≤_, min};
+ghost use Prim.Native.Nat.{_+_, _≤_};
 ghost use lib.ListN.{length};
 ghost use Rattle.definition.specs.LineMap.{line-starts};
 ghost use Rattle.definition.specs.Calls.{longest-source, building-lines, looking-up};
 ghost use Rattle.line_map.specs.Lookup.{looked, Looks-up};
-ghost use Rattle.line_map.specs.Quiet.{step, low-place, first-place, Quiet};
+ghost use Rattle.line_map.specs.Quiet.{step, is-quiet, Quiet};
+ghost use Rattle.text.specs.Stretch.{place-of, first-place};
 ghost use Rattle.table.specs.Fills.{Fills, Written};
-
-// The smaller of two bytes.
-fn smaller(a: u8, b: u8) -> u8
-    ensures { λ r. ⌜ r ≡ min a b ⌝ }
-{
-    if a < b {
-        return a;
-    }
-    b
-}
 
 // Bytes below this may begin a newline; no other byte does.
 const QUIET: u8 = 14;
 
 // How many bytes are looked at together.
-const STEP: usize = 128;
+const STEP: usize = 64;
 
 // Stands for no place of a step.
 const NOWHERE: u8 = 255;
 
 // The place of a byte where it may begin a newline.
 fn low_at(b: u8, k: u8) -> u8
-    ensures { λ r. ⌜ r ≡ low-place b k ⌝ }
+    ensures { λ r. ⌜ r ≡ place-of is-quiet b k ⌝ }
 {
     if b < QUIET {
         return k;
@@ -41,16 +33,15 @@ fn low_at(b: u8, k: u8) -> u8
     NOWHERE
 }
 
-// Where the first of the STEP bytes at a place stands that may begin a newline, counted from there. Each byte is looked at, and nothing is decided between
-// them: a compiler looks at many together.
+// Where the first of the STEP bytes at a place stands that may begin a newline, counted from there.
 fn first_low(src: &[u8], at: usize) -> u8
     requires { ⌜ at + step ≤ length (now src) ⌝ }
-    ensures { λ r. ⌜ r ≡ first-place step at (now (src .entry)) ⌝ }
+    ensures { λ r. ⌜ r ≡ first-place is-quiet step at (now (src .entry)) ⌝ }
 {
     let mut m = NOWHERE;
     let mut k: usize = 0;
     while k < STEP {
-        m = smaller(m, low_at(src[at + k], k as u8));
+        m = stretch::smaller(m, low_at(src[at + k], k as u8));
         k += 1;
     }
     m

@@ -1,5 +1,6 @@
 pub mod Cases
 pub mod Newlines
+pub mod Places
 pub mod Refusals
 pub mod Stretches
 pub mod Utf8s

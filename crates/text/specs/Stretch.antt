@@ -1,10 +1,11 @@
 -- Stretches of a source, and looks at several bytes of it together.
-use Prim.Native.Nat.{ℕ, zero, suc, _+_, _≤_, _<_}
+use Prim.Native.Nat.{ℕ, zero, suc, _+_, _≤_, _<_, min}
 use mathlib.Core.Path.{_≡_}
 use mathlib.Core.Bool.{Bool, true, _&&_}
 use mathlib.Core.List.{List}
 use lib.Dec.{leb}
 use lib.ListN.{length, getD}
+use Rattle.definition.specs.Text.{if_then_else_}
 
 -- From one place up to another P holds of every byte.
 pub record Stretch (P : ℕ → Type 0) (s : List ℕ) (at to : ℕ) : Type 0 where
@@ -31,3 +32,16 @@ step-passes l s at = leb (at + l .size) (length s) && l .test (gathered l (l .si
 -- Every byte of a stretch passes the test.
 abbrev pub Passing : Look → List ℕ → ℕ → ℕ → Type 0
 Passing l = Stretch (λ b. l .test b ≡ true)
+
+-- This stands for no place of a look.
+abbrev pub nowhere : ℕ
+nowhere = 255
+
+-- The place k of a byte b that does not pass a test.
+unfoldable pub place-of : (ℕ → Bool) → ℕ → ℕ → ℕ
+place-of test b k = if test b then nowhere else k
+
+-- The first such place of the first n bytes at a place, counted from there.
+unfoldable pub first-place : (ℕ → Bool) → ℕ → ℕ → List ℕ → ℕ
+first-place test zero at s = nowhere
+first-place test (suc n) at s = min (first-place test n at s) (place-of test (getD s (at + n) 0) n)

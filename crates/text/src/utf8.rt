@@ -1,7 +1,8 @@
 // The UTF-8 check (RFC 3629, section 4): one pass, one state.
+use crate::stretch;
 ghost use mathlib.Core.Path.{_≡_};
 ghost use mathlib.Core.List.{[]};
-ghost use Prim.Native.Nat.{_+_, _≤_, max};
+ghost use Prim.Native.Nat.{_+_, _≤_};
 ghost use lib.ListN.{length};
 ghost use Rattle.definition.specs.Text.{if_then_else_, none, some};
 ghost use Rattle.definition.specs.Utf8.{_⋯_, within, char-forms, follow, left};
@@ -99,16 +100,6 @@ fn end(s: State) -> Left
     }
 }
 
-// The larger of two bytes.
-fn larger(a: u8, b: u8) -> u8
-    ensures { λ r. ⌜ r ≡ max a b ⌝ }
-{
-    if a < b {
-        return b;
-    }
-    a
-}
-
 // ASCII is below this.
 const ABOVE_ASCII: u8 = 128;
 
@@ -123,7 +114,7 @@ fn largest(src: &[u8], at: usize) -> u8
     let mut m: u8 = 0;
     let mut k: usize = 0;
     while k < STEP {
-        m = larger(m, src[at + k]);
+        m = stretch::larger(m, src[at + k]);
         k += 1;
     }
     m

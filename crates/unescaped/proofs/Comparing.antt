@@ -4,13 +4,13 @@ use native.Mathlib.Decide.{decLt}
 use native.Mathlib.Numerals.{add-one}
 use native.Mathlib.Omega.{arith}
 use mathlib.Core.Path.{_≡_, refl, sym, ap, _∙_}
-use mathlib.Core.Bool.{Bool, true, false, and-false, true≢false}
+use mathlib.Core.Bool.{Bool, true, false, _&&_, _||_, and-false, true≢false}
 use mathlib.Core.List.{List, [], _∷_}
-use lib.Dec.{eqb, ltb}
+use lib.Dec.{eqb, leb}
 use lib.ListN.{length, drop, getD, drop-of-length-le}
 use lib.Seq.{drop-cons}
-use borrow.Author.Tests.{eq-eqb, ne-eqb, le-ltb, ltb-true, ltb-false}
-use Rattle.definition.specs.Text.{if_then_else_, byte, same}
+use borrow.Author.Tests.{eq-eqb, ne-eqb, leb-true, leb-false}
+use Rattle.definition.specs.Text.{byte, same}
 use Rattle.definition.specs.Unescaped.{unescaped}
 use Rattle.theorems.proofs.Lexing.Unescapes.{backslash, unescaped-other, unescaped-fewer}
 use Rattle.unescaped.specs.Continuation.{continuation}
@@ -54,14 +54,19 @@ module _ (text word : List ℕ) (i k : ℕ) (g : Comparing text word i k) where
         differs p = sym (g .is ∙ rw (continuations.keeps text i h w e z, drop-cons word k 0 l, ne-eqb _ _ p))
 
 -- The quick test, by the first byte of a text.
-module _ (text : List ℕ) (size first : ℕ) (l : size ≤ length text) (b : ℕ) (e : b ≡ getD text 0 0) where
-  pub may-escape : b ≡ byte "\\" → true ≡ may-be text size first
+module _ (text : List ℕ) (size first b : ℕ) (e : b ≡ getD text 0 0) where
+  pub may-begin : b ≡ first → leb size (length text) ≡ may-be text size first
   unfolding may-be
-  may-escape q = rw (le-ltb _ _ l, ← e, eq-eqb b (byte "\\") q)
+  may-begin p = rw (← e, eq-eqb b first p)
 
-  pub may-begin : (b ≡ byte "\\" → ⊥) → eqb b first ≡ may-be text size first
-  unfolding may-be
-  may-begin q = rw (le-ltb _ _ l, ← e, ne-eqb b (byte "\\") q)
+  module _ (n : b ≡ first → ⊥) where
+    pub may-escape : b ≡ byte "\\" → leb size (length text) ≡ may-be text size first
+    unfolding may-be
+    may-escape q = rw (← e, ne-eqb b first n, eq-eqb b (byte "\\") q)
+
+    pub may-not : (b ≡ byte "\\" → ⊥) → false ≡ may-be text size first
+    unfolding may-be
+    may-not q = rw (← e, ne-eqb b first n, ne-eqb b (byte "\\") q)
 
 -- A text that is shorter than a word, or begins with another byte that is kept, is not the word.
 shorter : (xs ys : List ℕ) → length xs < length ys → same xs ys ≡ false
@@ -80,10 +85,12 @@ begins-otherwise (b ∷ bs) (y ∷ ys) l q e = rw (unescaped-other b bs q, e)
 
 pub never : (text word : List ℕ) (r : Bool) (first : ℕ) → first ≡ getD word 0 0 → r ≡ may-be text (length word) first → r ≡ false → false ≡ same (unescaped text) word
 unfolding may-be
-never text word r first f k z = sym (go (ltb (length text) (length word)) refl (backslash (getD text 0 0)) refl (rw f at (sym k ∙ z)))
+never text word r first f k z =
+    sym (go (eqb (getD text 0 0) (getD word 0 0)) refl (backslash (getD text 0 0)) refl (leb (length word) (length text)) refl (rw f at (sym k ∙ z)))
   where
-    go : (t : Bool) → ltb (length text) (length word) ≡ t → (u : Bool) → backslash (getD text 0 0) ≡ u
-        → (if t then false else if u then true else eqb (getD text 0 0) (getD word 0 0)) ≡ false → same (unescaped text) word ≡ false
-    go true p u q e = shorter (unescaped text) word (omega (arith, unescaped-fewer text, ltb-true (length text) (length word) p))
-    go false p true q e = absurd (true≢false e)
-    go false p false q e = begins-otherwise text word (ltb-false _ _ p) q e
+    go : (t : Bool) → eqb (getD text 0 0) (getD word 0 0) ≡ t → (u : Bool) → backslash (getD text 0 0) ≡ u → (v : Bool) → leb (length word) (length text) ≡ v
+        → ((t || u) && v) ≡ false → same (unescaped text) word ≡ false
+    go t p u q false m e = shorter (unescaped text) word (omega (arith, unescaped-fewer text, leb-false (length word) (length text) m))
+    go true p u q true m e = absurd (true≢false e)
+    go false p true q true m e = absurd (true≢false e)
+    go false p false q true m e = begins-otherwise text word (leb-true _ _ m) q p

@@ -30,18 +30,19 @@ fn continuation_at(text: &[u8], at: usize) -> usize
 }
 
 // Whether a text may be a word of so many bytes that begins with this one, unescaped. The word is told in numbers, since a literal would be made
-// anew before the test.
+// anew before the test; and its first byte before its length, since most texts begin otherwise, and a processor foresees that.
 pub fn may_be(text: &[u8], size: usize, first: u8) -> bool
     ensures { λ r. ⌜ r ≡ may-be (now (text .entry)) size first ⌝ }
 {
-    if text.len() < size {
-        return false;
-    }
+    let long = size <= text.len();
     let b = newline::byte_at(text, 0);
-    if b == b'\\' {
-        return true;
+    if b == first {
+        return long;
     }
-    b == first
+    if b == b'\\' {
+        return long;
+    }
+    false
 }
 
 // Whether the text, unescaped, is the word, byte by byte.

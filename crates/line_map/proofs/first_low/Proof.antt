@@ -1,13 +1,13 @@
 -- `first_low` looks at the bytes of a step one after another.
 use Prim.Native.Nat.{_-_}
 use Rattle.text.proofs.Cases.{cases}
-use Rattle.line_map.specs.Quiet.{step}
-use Rattle.line_map.proofs.Quiets.{Looking, look-none, look-more, look-all}
+use Rattle.text.proofs.Places.{Looking, look-none, look-more, look-all}
+use Rattle.line_map.specs.Quiet.{is-quiet, step}
 use Rattle.line_map.proofs.first_low.Statement.{statement}
 use Rattle.line_map.proofs.first_low.Tie as tie
 
 abbrev Inv-loop : tie.InvT-loop
-Inv-loop src at m₀ k₀ m k = Looking src at k m
+Inv-loop src at m₀ k₀ m k = Looking is-quiet src at step k m
 
 abbrev μ-loop : tie.MeasureT-loop
 μ-loop src at m₀ k₀ m k = step - k
@@ -18,7 +18,7 @@ first-low-spec =
     (tie.spec
     Inv-loop
     μ-loop
-    (λ c. look-none _ _)
+    (λ c. look-none is-quiet _ _ step)
     (λ c. search cases)
     (λ c. search cases)
     (λ c. search cases)
@@ -26,5 +26,5 @@ first-low-spec =
     (λ c κs. search cases)
     (λ c. search cases)
     (λ c. search cases)
-    (λ c. search (look-more, cases))
-    (λ c. search (look-all, cases)))
+    (λ c. search (look-more is-quiet, cases))
+    (λ c. search (look-all is-quiet, cases)))
