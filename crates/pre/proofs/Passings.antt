@@ -1,40 +1,78 @@
--- Bytes that comments go on with are passed over, several together.
-use Prim.Native.Nat.{ℕ, zero, suc, _+_, _-_, _≤_, _<_, max}
+-- Bytes that comments and identifiers go on with are passed over, several together.
+use Prim.Native.Nat.{ℕ, zero, suc, _+_, _-_, _^_, _≤_, _<_, max}
 use native.Mathlib.Decide.{decLt}
 use native.Mathlib.Omega.{arith}
 use mathlib.Core.Path.{_≡_, refl, sym, _∙_}
-use mathlib.Core.Bool.{Bool, true, false, and-eq-true-iff}
+use mathlib.Core.Bool.{Bool, true, false, not, _||_, and-eq-true-iff}
+use mathlib.Core.Option.{none, some}
 use mathlib.Core.List.{List}
 use mir.Val.{Fits}
-use mir.Syntax.{w8}
-use borrow.Author.Tests.{leb-true, lt-leb, eqb-true, ltb-false, lt-ltb, le-ltb, eq-eqb, ne-eqb}
-use lib.Dec.{leb, ltb, eqb}
+use mir.Syntax.{w8, w64}
+use borrow.Author.Tests.{leb-true, le-leb, lt-leb, eqb-true, eq-eqb, ne-eqb, not-true}
+use lib.Dec.{leb, eqb}
 use lib.ListN.{length, getD}
-use Rattle.definition.specs.Text.{byte}
-use Rattle.definition.specs.Newline.{LF, CR, CRLF, newline}
-use Rattle.definition.specs.Pre.{State, single-comment, multi-comment, more}
+use Rattle.definition.specs.Text.{among, byte}
+use Rattle.definition.specs.SyntaxKind.{Kind}
+use Rattle.definition.specs.Newline.{LF, CR, CRLF, letter, digit, newline}
+use Rattle.definition.specs.Pre.{State, ident, single-comment, multi-comment, kind-of, more}
 use Rattle.theorems.proofs.Lexing.Walk.{zero-none}
-use Rattle.text.specs.Stretch.{Stretch, Look, gathered, step-passes}
+use Rattle.text.specs.Stretch.{Stretch, Look, gathered, step-passes, nowhere, place-of, first-place}
 use Rattle.text.proofs.Stretches.{Gathering, gather-more, step-tested, stretch-same}
+use Rattle.text.proofs.Places.{place-here, place-nowhere, look-over, look-stops}
 use Rattle.pre.specs.Scan.{from}
-use Rattle.pre.specs.Passes.{quiet, loud-mark, star-mark, mark-look, loud-look, star-look, Passes}
-use Rattle.pre.proofs.Froms.{from-more}
+use Rattle.pre.specs.Passes.{quiet, in-line, line-step, in-word, word-step, star-mark, mark-look, star-look, Passes}
+use Rattle.pre.proofs.Classes.{Closed, closed-by, closed-is, letter-within, digit-within}
+use Rattle.pre.proofs.Froms.{token, from-more, go-on, stop-at}
 use Rattle.pre.proofs.Absorbs.{any-line, any-comment}
 
--- The mark of one byte.
+or-left : (x y : Bool) → x ≡ true → (x || y) ≡ true
+or-left x y e = rw e
+
+or-right : (x y : Bool) → y ≡ true → (x || y) ≡ true
+or-right true y e = refl
+or-right false y e = e
+
+-- The place of one byte of a single-line comment,
+module _ (b k : ℕ) where
+  pub loud-low : b < quiet → k ≡ place-of in-line b k
+  unfolding in-line
+  loud-low h = place-here in-line b k (rw (lt-leb quiet b h))
+
+  pub loud-back : quiet ≤ b → b ≡ byte "\\" → k ≡ place-of in-line b k
+  unfolding in-line
+  loud-back h e = place-here in-line b k (rw (le-leb quiet b h, eq-eqb b (byte "\\") e))
+
+  pub loud-none : quiet ≤ b → (b ≡ byte "\\" → ⊥) → nowhere ≡ place-of in-line b k
+  unfolding in-line
+  loud-none h n = place-nowhere in-line b k (rw (le-leb quiet b h, ne-eqb b (byte "\\") n))
+
+  -- and of an identifier.
+  word-nowhere : in-word b ≡ true → nowhere ≡ place-of in-word b k
+  word-nowhere = place-nowhere in-word b k
+
+  pub other-upper : among (byte "A") (byte "Z") b ≡ true → nowhere ≡ place-of in-word b k
+  unfolding in-word
+  other-upper h = word-nowhere (or-left (letter b || digit b) _ (or-left (letter b) _ (or-left (among (byte "A") (byte "Z") b) _ h)))
+
+  pub other-lower : among (byte "a") (byte "z") b ≡ true → nowhere ≡ place-of in-word b k
+  unfolding in-word
+  other-lower h = word-nowhere (or-left (letter b || digit b) _ (or-left (letter b) _ (or-right (among (byte "A") (byte "Z") b) _ h)))
+
+  pub other-digit : among (byte "0") (byte "9") b ≡ true → nowhere ≡ place-of in-word b k
+  unfolding in-word
+  other-digit h = word-nowhere (or-left (letter b || digit b) _ (or-right (letter b) _ h))
+
+  pub other-under : b ≡ byte "_" → nowhere ≡ place-of in-word b k
+  unfolding in-word
+  other-under h = word-nowhere (or-right (letter b || digit b) _ (eq-eqb b (byte "_") h))
+
+  pub other-here : among (byte "A") (byte "Z") b ≡ false → among (byte "a") (byte "z") b ≡ false → among (byte "0") (byte "9") b ≡ false
+      → (b ≡ byte "_" → ⊥) → k ≡ place-of in-word b k
+  unfolding in-word
+  other-here e f g n = place-here in-word b k (rw (e, f, g, ne-eqb b (byte "_") n))
+
+-- The mark of one byte of a comment.
 module _ (b : ℕ) where
-  pub loud-low : b < quiet → 1 ≡ loud-mark b
-  unfolding loud-mark
-  loud-low h = rw (lt-ltb b quiet h)
-
-  pub loud-back : quiet ≤ b → b ≡ byte "\\" → 1 ≡ loud-mark b
-  unfolding loud-mark
-  loud-back h e = rw (le-ltb b quiet h, eq-eqb b (byte "\\") e)
-
-  pub loud-none : quiet ≤ b → (b ≡ byte "\\" → ⊥) → 0 ≡ loud-mark b
-  unfolding loud-mark
-  loud-none h n = rw (le-ltb b quiet h, ne-eqb b (byte "\\") n)
-
   pub star-one : b ≡ byte "*" → 1 ≡ star-mark b
   unfolding star-mark
   star-one e = rw (eq-eqb b (byte "*") e)
@@ -52,27 +90,44 @@ module _ (b : ℕ) where
       go true e h = absurd (let z : 1 ≡ 0 = rw e at h in omega arith)
       go false e h = e
 
-  not-loud : loud-mark b ≡ 0 → (ltb b quiet ≡ false) × (eqb b (byte "\\") ≡ false)
-  unfolding loud-mark
-  not-loud = go (ltb b quiet) (eqb b (byte "\\")) refl refl
-    where
-      go : (t u : Bool) → ltb b quiet ≡ t → eqb b (byte "\\") ≡ u → loud-mark b ≡ 0 → (ltb b quiet ≡ false) × (eqb b (byte "\\") ≡ false)
-      go true u e f h = absurd (let z : 1 ≡ 0 = rw e at h in omega arith)
-      go false true e f h = absurd (let z : 1 ≡ 0 = rw (e, f) at h in omega arith)
-      go false false e f h = (e, f)
+-- What a byte says that a comment or an identifier goes on with.
+module _ (b : ℕ) where
+  not-loud : in-line b ≡ true → (leb quiet b ≡ true) × (eqb b (byte "\\") ≡ false)
+  unfolding in-line
+  not-loud h = let e = and-eq-true-iff (leb quiet b) (not (eqb b (byte "\\"))) .0 h in (e .0, not-true _ (e .1))
 
-  quiet-byte : Fits w8 b → loud-mark b ≡ 0 → newline b ≡ false
+  quiet-byte : Fits w8 b → in-line b ≡ true → newline b ≡ false
   quiet-byte k h =
-      let l : quiet ≤ b = ltb-false b quiet (not-loud h .0) in
+      let l : quiet ≤ b = leb-true quiet b (not-loud h .0) in
       rw (ne-eqb b LF (λ q. omega arith), ne-eqb b CR (λ q. omega arith), ne-eqb b CRLF (λ q. omega arith))
 
--- A byte without a mark leaves the state as it is.
+  word-goes : in-word b ≡ true → more ident b ≡ some ident
+  unfolding in-word more
+  word-goes h = rw h
+
+  word-closed : in-word b ≡ true → Closed b
+  unfolding in-word
+  word-closed h = go (letter b) (digit b) refl refl h
+    where
+      go : (l d : Bool) → letter b ≡ l → digit b ≡ d → (l || d || eqb b (byte "_")) ≡ true → Closed b
+      go true d p q r = let w = letter-within b p in closed-by b (omega (arith, w .to-high)) (λ z. omega (arith, w .from-low)) (λ z. omega (arith, w .from-low))
+      go false true p q r = let w = digit-within b q in closed-by b (omega (arith, w .to-high)) (λ z. omega (arith, w .from-low)) (λ z. omega (arith, w .from-low))
+      go false false p q r = closed-is b (byte "_") (eqb-true b (byte "_") r) refl
+
+  pub word-stops : in-word b ≡ false → (b ≡ byte "\\" → ⊥) → more ident b ≡ none
+  unfolding in-word more
+  word-stops h n = rw (h, ne-eqb b (byte "\\") n)
+
+-- Such a byte leaves the state as it is.
 module _ (s : List ℕ) (i : ℕ) (h : i < length s) where
-  loud-over : Fits w8 (getD s i 0) → loud-mark (getD s i 0) ≡ 0 → from single-comment 0 i s ≡ from single-comment 0 (i + 1) s
+  line-over : Fits w8 (getD s i 0) → in-line (getD s i 0) ≡ true → from single-comment 0 i s ≡ from single-comment 0 (i + 1) s
   unfolding more
-  loud-over k e =
+  line-over k e =
       let n : newline (getD s i 0) ≡ false = quiet-byte _ k e in
       from-more single-comment 0 i s h single-comment (zero-none _) (rw (n, not-loud _ e .1)) ∙ any-line (getD s i 0) (i + 1) s n
+
+  word-over : in-word (getD s i 0) ≡ true → from ident 0 i s ≡ from ident 0 (i + 1) s
+  word-over e = go-on ident ident i s h (word-closed _ e) (word-goes _ e)
 
   star-over : star-mark (getD s i 0) ≡ 0 → from multi-comment 0 i s ≡ from multi-comment 0 (i + 1) s
   unfolding more
@@ -126,9 +181,47 @@ module _ (f : ℕ → ℕ) (s : List ℕ) (at : ℕ) where
         → Passes q s from₀ (at + look .size)
     step-on q from₀ k on = record { forward = omega (arith, k .forward); is = k .is ∙ stretch-same s at (λ i. from q 0 i s) on (at + look .size) step-stretch }
 
-module _ (s : List ℕ) (from₀ at : ℕ) (r : Bool) (t : r ≡ true) where
-  pub loud-on : ((i : ℕ) → Fits w8 (getD s i 0)) → Passes single-comment s from₀ at → r ≡ step-passes loud-look s at → Passes single-comment s from₀ (at + loud-look .size)
-  loud-on known k e = step-on loud-mark s at r e t single-comment from₀ k (λ i h p. loud-over s i h (known i) p)
+pub star-on : (s : List ℕ) (from₀ at : ℕ) (r : Bool) → r ≡ true → Passes multi-comment s from₀ at → r ≡ step-passes star-look s at → Passes multi-comment s from₀ (at + star-look .size)
+star-on s from₀ at r t k e = step-on star-mark s at r e t multi-comment from₀ k (λ i h p. star-over s i h p)
 
-  pub star-on : Passes multi-comment s from₀ at → r ≡ step-passes star-look s at → Passes multi-comment s from₀ (at + star-look .size)
-  star-on k e = step-on star-mark s at r e t multi-comment from₀ k (λ i h p. star-over s i h p)
+-- So many bytes stand at a place.
+pub stood : (r : Bool) (a b : ℕ) → r ≡ leb a b → r ≡ true → a ≤ b
+stood r a b e t = leb-true a b (sym e ∙ t)
+
+-- What lies within them is a place of the source, and fits a number.
+module _ (size : ℕ) (r : Bool) (at : ℕ) (s : List ℕ) (e : r ≡ leb (at + size) (length s)) (t : r ≡ true) where
+  pub part-within : (n : ℕ) → n < size → at + n < length s
+  part-within n h = omega (arith, stood r (at + size) (length s) e t)
+
+  pub part-fits : (n : ℕ) → n < size → length s < 2 ^ 64 → Fits w64 (at + n)
+  part-fits n h b = omega (arith, stood r (at + size) (length s) e t)
+
+  pub whole-fits : length s < 2 ^ 64 → Fits w64 (at + size)
+  whole-fits b = omega (arith, stood r (at + size) (length s) e t)
+
+  pub whole-nearer : 0 < size → length s - (at + size) < length s - at
+  whole-nearer h = omega (arith, stood r (at + size) (length s) e t)
+
+-- A look at a single-line comment is passed over, up to a place in it or whole,
+module _ (s : List ℕ) (known : (i : ℕ) → Fits w8 (getD s i 0)) (from₀ at m : ℕ) (k : Passes single-comment s from₀ at)
+    (h : at + line-step ≤ length s) (e : m ≡ first-place in-line line-step at s) where
+  over : (n : ℕ) → n ≤ line-step → n ≤ m → Passes single-comment s from₀ (at + n)
+  over n a b = record {
+    forward = omega (arith, k .forward);
+    is = k .is ∙ stretch-same s at (λ i. from single-comment 0 i s) (λ i l p. line-over s i l (known i) p) (at + n) (look-over in-line line-step s at m h e n a b);
+  }
+
+  pub line-part : m < line-step → Passes single-comment s from₀ (at + m)
+  line-part l = over m (omega arith) (omega arith)
+
+  pub line-whole : line-step ≤ m → Passes single-comment s from₀ (at + line-step)
+  line-whole l = over line-step (omega arith) l
+
+-- and an identifier that ends in a look is read.
+pub word-ends : (s : List ℕ) (at m : ℕ) → at + word-step ≤ length s → m ≡ first-place in-word word-step at s → m < word-step → (getD s (at + m) 0 ≡ byte "\\" → ⊥)
+    → token Kind.IDENT_KW (at + m) ≡ from ident 0 at s
+unfolding kind-of
+word-ends s at m h e l n =
+    let b : in-word (getD s (at + m) 0) ≡ false = look-stops in-word word-step s at m h e (omega arith) l in
+    let over = stretch-same s at (λ i. from ident 0 i s) (λ i l p. word-over s i l p) (at + m) (look-over in-word word-step s at m h e m (omega arith) (omega arith)) in
+    sym (over ∙ stop-at ident (at + m) s (omega arith) (word-stops (getD s (at + m) 0) b n))

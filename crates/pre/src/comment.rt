@@ -2,14 +2,15 @@
 use crate::class::Class;
 use crate::token::Token;
 use syntax_kind::kind::Kind;
+use text::stretch;
 ghost use mathlib.Core.Path.{_≡_};
-ghost use Prim.Native.Nat.{_+_, _≤_, max};
+ghost use Prim.Native.Nat.{_+_, _≤_};
 ghost use lib.ListN.{length, drop};
 ghost use Rattle.definition.specs.Pre as state;
 ghost use Rattle.pre.specs.Table.{class-table};
 ghost use Rattle.pre.specs.Scan.{from, width-at};
-ghost use Rattle.pre.specs.Passes.{Passes, loud-mark, star-mark, loud-look, star-look};
-ghost use Rattle.text.specs.Stretch.{gathered, step-passes};
+ghost use Rattle.pre.specs.Passes.{Passes, in-line, line-step, star-mark, star-look};
+ghost use Rattle.text.specs.Stretch.{gathered, step-passes, place-of, first-place};
 
 // How many bytes to pass with the character at `at`: those of a newline, else its first byte.
 fn width_at(src: &[u8], at: usize) -> usize
@@ -22,69 +23,53 @@ fn width_at(src: &[u8], at: usize) -> usize
     w
 }
 
-// The larger of two marks.
-fn larger(a: u8, b: u8) -> u8
-    ensures { λ r. ⌜ r ≡ max a b ⌝ }
-{
-    if a < b {
-        return b;
-    }
-    a
-}
-
-// How many bytes are looked at together. Each of them is marked, and nothing is decided between them: a compiler looks at all of them together.
-const STEP: usize = 16;
+// How many bytes of a single-line comment are looked at together.
+const LINE_STEP: usize = 64;
 
 // Bytes below this may begin a newline; no other byte does.
 const QUIET: u8 = 14;
 
-// 1 for a byte that may end or bend a single-line comment, else 0.
-fn loud(c: u8) -> u8
-    ensures { λ r. ⌜ r ≡ loud-mark c ⌝ }
+// Stands for no place of a look.
+const NOWHERE: u8 = 255;
+
+// The place of a byte that may end or bend a single-line comment.
+fn loud_at(b: u8, k: u8) -> u8
+    ensures { λ r. ⌜ r ≡ place-of in-line b k ⌝ }
 {
-    if c < QUIET {
-        return 1;
+    if b < QUIET {
+        return k;
     }
-    if c == b'\\' {
-        return 1;
+    if b == b'\\' {
+        return k;
     }
-    0
+    NOWHERE
 }
 
-// The largest mark of the STEP bytes at a place.
-fn loudest(src: &[u8], at: usize) -> u8
-    requires { ⌜ at + loud-look .size ≤ length (now src) ⌝ }
-    ensures { λ r. ⌜ r ≡ gathered loud-look (loud-look .size) at (now (src .entry)) ⌝ }
+// Where the first such byte of the LINE_STEP bytes at a place stands, counted from there.
+fn first_loud(src: &[u8], at: usize) -> u8
+    requires { ⌜ at + line-step ≤ length (now src) ⌝ }
+    ensures { λ r. ⌜ r ≡ first-place in-line line-step at (now (src .entry)) ⌝ }
 {
-    let mut m: u8 = 0;
+    let mut m = NOWHERE;
     let mut k: usize = 0;
-    while k < STEP {
-        m = larger(m, loud(src[at + k]));
+    while k < LINE_STEP {
+        m = stretch::smaller(m, loud_at(src[at + k], k as u8));
         k += 1;
     }
     m
 }
 
-// Whether STEP bytes stand at a place that all go on with a single-line comment.
-fn all_quiet(src: &[u8], at: usize) -> bool
-    ensures { λ r. ⌜ r ≡ step-passes loud-look (now (src .entry)) at ⌝ }
-{
-    if src.len() < STEP {
-        return false;
-    }
-    if src.len() - STEP < at {
-        return false;
-    }
-    loudest(src, at) == 0
-}
-
-// Behind the bytes at a place that go on with a single-line comment, in whole steps.
+// Behind the bytes at a place that go on with a single-line comment, as far as LINE_STEP bytes stand.
 fn pass_quiet(src: &[u8], at: usize) -> usize
     ensures { λ r. ⌜ Passes state.single-comment (now (src .entry)) at r ⌝ }
 {
     let mut i = at;
-    while all_quiet(src, i) {
-        i += STEP;
+    while stretch::stand(src, i, LINE_STEP) {
+        let k = first_loud(src, i) as usize;
+        if k < LINE_STEP {
+            return i + k;
+        }
+        i += LINE_STEP;
     }
     i
 }
@@ -122,6 +107,9 @@ pub fn single_comment(src: &[u8], table: &[u8; 256], at: usize) -> Token
     }
 }
 
+// How many bytes of a comment are looked at together.
+const STEP: usize = 16;
+
 // 1 for a star, else 0.
 fn star(c: u8) -> u8
     ensures { λ r. ⌜ r ≡ star-mark c ⌝ }
@@ -140,7 +128,7 @@ fn starriest(src: &[u8], at: usize) -> u8
     let mut m: u8 = 0;
     let mut k: usize = 0;
     while k < STEP {
-        m = larger(m, star(src[at + k]));
+        m = stretch::larger(m, star(src[at + k]));
         k += 1;
     }
     m

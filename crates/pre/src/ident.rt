@@ -2,13 +2,68 @@
 use crate::class::Class;
 use crate::token::Token;
 use syntax_kind::kind::Kind;
+use text::stretch;
 ghost use mathlib.Core.Path.{_≡_};
+ghost use Prim.Native.Nat.{_+_, _≤_};
+ghost use lib.ListN.{length};
+ghost use Rattle.definition.specs.Text.{among};
 ghost use Rattle.definition.specs.Pre as state;
 ghost use Rattle.pre.specs.Table.{class-table};
 ghost use Rattle.pre.specs.Scan.{from};
+ghost use Rattle.pre.specs.Passes.{in-word, word-step};
+ghost use Rattle.text.specs.Stretch.{place-of, first-place};
 
-// The rest of an identifier, from `at` on.
-pub fn ident(src: &[u8], table: &[u8; 256], at: usize) -> Token
+// How many bytes are looked at together.
+const STEP: usize = 32;
+
+// Stands for no place of a look.
+const NOWHERE: u8 = 255;
+
+// Whether a byte lies in a range.
+fn among(low: u8, high: u8, b: u8) -> bool
+    ensures { λ r. ⌜ r ≡ among low high b ⌝ }
+{
+    if b < low {
+        return false;
+    }
+    b <= high
+}
+
+// The place of a byte that does not go on with an identifier, or not alone. It is told by numbers: a compiler looks at no entries of a table together.
+fn other_at(b: u8, k: u8) -> u8
+    ensures { λ r. ⌜ r ≡ place-of in-word b k ⌝ }
+{
+    if among(b'A', b'Z', b) {
+        return NOWHERE;
+    }
+    if among(b'a', b'z', b) {
+        return NOWHERE;
+    }
+    if among(b'0', b'9', b) {
+        return NOWHERE;
+    }
+    if b == b'_' {
+        return NOWHERE;
+    }
+    k
+}
+
+// Where the first such byte of the STEP bytes at a place stands, counted from there.
+fn first_other(src: &[u8], at: usize) -> u8
+    requires { ⌜ at + word-step ≤ length (now src) ⌝ }
+    ensures { λ r. ⌜ r ≡ first-place in-word word-step at (now (src .entry)) ⌝ }
+{
+    let mut m = NOWHERE;
+    let mut k: usize = 0;
+    while k < STEP {
+        m = stretch::smaller(m, other_at(src[at + k], k as u8));
+        k += 1;
+    }
+    m
+}
+
+// The rest of an identifier, from `at` on, byte by byte.
+fn by_bytes(src: &[u8], table: &[u8; 256], at: usize) -> Token
     requires { ⌜ now table ≡ class-table ⌝ }
     ensures { λ r. ⌜ r ≡ from state.ident 0 at (now (src .entry)) ⌝ }
 {
@@ -39,4 +94,24 @@ pub fn ident(src: &[u8], table: &[u8; 256], at: usize) -> Token
         kind: Kind::IDENT_KW,
         end: i,
     }
+}
+
+// The rest of an identifier, from `at` on: where it ends is looked for at once, since a processor does not foresee the end of a loop over it.
+pub fn ident(src: &[u8], table: &[u8; 256], at: usize) -> Token
+    requires { ⌜ now table ≡ class-table ⌝ }
+    ensures { λ r. ⌜ r ≡ from state.ident 0 at (now (src .entry)) ⌝ }
+{
+    if stretch::stand(src, at, STEP) {
+        let k = first_other(src, at) as usize;
+        if k < STEP {
+            let end = at + k;
+            if src[end] != b'\\' {
+                return Token {
+                    kind: Kind::IDENT_KW,
+                    end,
+                };
+            }
+        }
+    }
+    by_bytes(src, table, at)
 }

@@ -1,10 +1,10 @@
--- `pass_quiet` passes over whole steps of bytes without a mark.
+-- `pass_quiet` passes over bytes that a single-line comment goes on with, look by look.
 use Prim.Native.Nat.{_-_}
 use lib.ListN.{length}
 use Rattle.definition.specs.Pre.{single-comment}
-use Rattle.pre.specs.Passes.{loud-mark, Passes}
+use Rattle.pre.specs.Passes.{line-step, Passes}
 use Rattle.text.proofs.Cases.{cases}
-use Rattle.pre.proofs.Passings.{pass-none, within, nearer, loud-on}
+use Rattle.pre.proofs.Passings.{pass-none, stood, part-fits, whole-fits, whole-nearer, line-part, line-whole}
 use Rattle.pre.proofs.comment.pass_quiet.Statement.{statement}
 use Rattle.pre.proofs.comment.pass_quiet.Tie as tie
 
@@ -22,7 +22,11 @@ pass-quiet-spec =
     μ-loop
     (λ c. pass-none single-comment _ _)
     (λ c κs. search cases)
-    (λ c. search (within loud-mark, cases))
-    (λ c. search (nearer loud-mark, cases))
-    (λ c. search (loud-on, cases))
+    (λ c κs. search (stood, cases))
+    (λ c. search cases)
+    (λ c. search (part-fits line-step, cases))
+    (λ c. search (line-part, stood, cases))
+    (λ c. search (whole-fits line-step, cases))
+    (λ c. search (whole-nearer line-step, cases))
+    (λ c. search (line-whole, stood, cases))
     (λ c. search cases))
