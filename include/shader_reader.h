@@ -38,9 +38,9 @@ extern "C" {
 /* The most ## that a body may hold. */
 #define SHADER_CONCAT_LIMIT 256
 
-/* Stack that suffices for every call, with some to spare. Seen: shader_read 90,600 bytes, shader_define_body 89,400,
- * both on a body of 256 ## (without any ##, 4,600 and 3,400); the others less than 500. Where memset is bound at its first
- * call, the dynamic linker needs some 3,000 bytes once. */
+/* Stack that suffices for every call, with some to spare. Measured: shader_read 4,600 bytes and 336 more for each ## of
+ * a body, at most 90,600; shader_define_body at most 89,400; the others less than 500. Where memset is bound at its
+ * first call, the dynamic linker takes some 3,300 once. */
 #define SHADER_STACK_BYTES 98304
 
 /* Why a call is refused. Of several reasons the smallest number is given. */
@@ -197,8 +197,8 @@ typedef struct { uint32_t refusal, kind; } shader_pasted;
 shader_reading shader_read(const uint8_t *src, size_t bytes, uint32_t *entries, size_t entry_room, uint32_t *errors,
                            size_t error_room, uint32_t *lines, size_t line_room);
 
-/* Reads a define body, what stands before the first newline: a tree under a PP_DEFINE_BODY, without a ROOT. The count is
- * of entries; 5 * (2 * bytes + 1) numbers always suffice. Refusals: 1 to 4. */
+/* Reads a define body, what stands before the first newline: a tree under a PP_DEFINE_BODY, without a ROOT. The count
+ * is of entries; 5 * (2 * bytes + 1) numbers always suffice. Refusals: 1 to 4. */
 shader_counted shader_define_body(const uint8_t *src, size_t bytes, uint32_t *entries, size_t room);
 
 /* Lists the tokens of a source. 3 * bytes numbers always suffice. Refusals: 1, 2, 4. */
@@ -223,8 +223,8 @@ shader_pasted shader_paste(uint32_t lhs, uint32_t rhs);
 
 /* What follows is compiled into the host, where it is used. */
 
-/* As shader_lookup, by binary search: for a table that shader_read or shader_line_table has filled, which is not checked
- * again. */
+/* As shader_lookup, by binary search: for a table that shader_read or shader_line_table has filled, which is not
+ * checked again. */
 static inline shader_place shader_find_line(const uint32_t *lines, size_t count, uint32_t offset) {
     shader_place place = {SHADER_REFUSAL_LOOKUP, 0, 0};
     size_t low = 0, high = count;
@@ -243,10 +243,13 @@ static inline shader_place shader_find_line(const uint32_t *lines, size_t count,
 /* Sizes. Lengths of the three tables of shader_read, in numbers. */
 typedef struct { size_t entries, errors, lines; } shader_room;
 
+static inline size_t shader_at_most(size_t a, size_t b) { return a < b ? a : b; }
+
 /* Lengths that always suffice, which is proved: 8 * bytes + 1 entries, 8 * bytes errors, bytes + 1 lines. That is 484
- * bytes for each byte of the source. In every run 2 * bytes + 1 entries and bytes errors sufficed, which is not proved. */
+ * bytes for each byte of the source. In every run 2 * bytes + 1 entries and bytes errors sufficed, which is not
+ * proved. */
 static inline shader_room shader_room_bound(size_t bytes) {
-    size_t n = bytes < SHADER_SOURCE_LIMIT ? bytes : SHADER_SOURCE_LIMIT;
+    size_t n = shader_at_most(bytes, SHADER_SOURCE_LIMIT);
     shader_room room;
     room.entries = SHADER_ENTRY_NUMBERS * (8 * n + 1);
     room.errors = SHADER_ERROR_NUMBERS * 8 * n;
@@ -254,10 +257,8 @@ static inline shader_room shader_room_bound(size_t bytes) {
     return room;
 }
 
-static inline size_t shader_at_most(size_t a, size_t b) { return a < b ? a : b; }
-
-/* Lengths that nearly always suffice, some 7 bytes for each byte of the source: an entry for every 3 bytes (real shaders
- * have a leaf for every 3.5), a line for every 16, few errors. */
+/* Lengths that nearly always suffice, some 7 bytes for each byte of the source: an entry for every 3 bytes (shaders as
+ * people write them have a leaf for every 3.5), a line for every 16, few errors. */
 static inline shader_room shader_room_guess(size_t bytes) {
     size_t n = shader_at_most(bytes, SHADER_SOURCE_LIMIT);
     shader_room bound = shader_room_bound(bytes), room;
