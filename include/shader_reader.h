@@ -12,10 +12,13 @@
  *   anywhere. No pointer is kept. None of this is checked; on all else a call answers, whatever the bytes and lengths.
  * Threads. No call has global state, allocates or locks: any number of threads may call at once, on one source too,
  *   each with tables of its own.
- * Cost. Linear in the source's bytes and in the room that is lent, since all of the room is written: lend what the
- *   source needs. See "Sizes" below.
+ * Cost. Linear in the source's bytes and in the room that is lent, refused or not: shader_read, shader_define_body and
+ *   shader_tokens clear what is left behind their answer, shader_line_table and shader_unescape clear all of the room
+ *   before they write. Lend what the source needs; see "Sizes" below.
  * Stack. SHADER_STACK_BYTES suffice for every call.
- * Machine. x86-64 with the System V calling convention, ELF. The library needs memset and nothing else. */
+ * Machine. x86-64 with the System V calling convention, ELF. The library needs memset and nothing else.
+ *
+ * hosts/c/read.c and hosts/c/errors.cpp are whole programs. */
 #ifndef SHADER_READER_H
 #define SHADER_READER_H
 
@@ -46,7 +49,7 @@ extern "C" {
 /* Why a call is refused. Of several reasons the smallest number is given. */
 enum shader_refusal {
     SHADER_REFUSAL_NONE = 0,    /* accepted */
-    SHADER_REFUSAL_LENGTH = 1,  /* the source or text is longer than SHADER_SOURCE_LIMIT */
+    SHADER_REFUSAL_LENGTH = 1,  /* the source or text is longer than SHADER_SOURCE_LIMIT; it was not looked at */
     SHADER_REFUSAL_UTF8 = 2,    /* it is not UTF-8 (RFC 3629) */
     SHADER_REFUSAL_CONCATS = 3, /* a body holds more than SHADER_CONCAT_LIMIT ## */
     SHADER_REFUSAL_ENTRIES = 4, /* the entry table or the token table is too short: lend a longer one */
@@ -204,12 +207,11 @@ shader_counted shader_define_body(const uint8_t *src, size_t bytes, uint32_t *en
 /* Lists the tokens of a source. 3 * bytes numbers always suffice. Refusals: 1, 2, 4. */
 shader_counted shader_tokens(const uint8_t *src, size_t bytes, uint32_t *tokens, size_t room);
 
-/* The offset where each line starts. bytes + 1 numbers always suffice. Refusals: 1, 2, 6. Clears the whole table before
- * it writes. */
+/* The offset where each line starts. bytes + 1 numbers always suffice. Refusals: 1, 2, 6. */
 shader_counted shader_line_table(const uint8_t *src, size_t bytes, uint32_t *lines, size_t room);
 
 /* The text without its continuations (a backslash with the newline behind it). The count is of bytes; as many as the
- * text has always suffice. Refusals: 1, 2, 8. Clears the whole output before it writes. */
+ * text has always suffice. Refusals: 1, 2, 8. */
 shader_counted shader_unescape(const uint8_t *text, size_t bytes, uint8_t *output, size_t room);
 
 /* Line and column of an offset, past the end of the source too. `lines` has the line starts alone, as many as were

@@ -15,8 +15,20 @@ names_of_kinds() {
     hosts/c/definition.sh kinds | diff - "$work/kinds"
 }
 
+# The version of the header and of the cargo packages is one.
+one_version() {
+    version=$(sed -n 's/^#define SHADER_READER_VERSION "\(.*\)"/\1/p' include/shader_reader.h)
+    parts=$(sed -n 's/^#define SHADER_READER_VERSION_[A-Z]* \([0-9]*\)$/\1/p' include/shader_reader.h | paste -sd .)
+    [ "$version" = "$parts" ] || { echo "$version in the header, and $parts"; return 1; }
+    for manifest in hosts/*/Cargo.toml; do
+        [ -f "$manifest" ] || continue
+        grep -q "^version = \"$version\"" "$manifest" || { echo "not $version in $manifest"; return 1; }
+    done
+}
+
 echo memset >"$work/memset"
 sed -n 's/^shader_[a-z]* \(shader_[a-z_]*\)(.*/\1/p' include/shader_reader.h | sort >"$work/calls"
 try "the library needs memset alone, has the seven calls, no data and no bss" symbols
 try "numbers, calls and answers of the header are those of the crates" hosts/c/definition.sh
+try "one version everywhere" one_version
 try "names of kinds are those of the definition" names_of_kinds

@@ -1,4 +1,5 @@
-/* NULL where a length is 0, for every pointer of every call, alone and with the others. */
+/* NULL where a length is 0, for every pointer of every call, alone and with the others; a source that is too long is not
+ * looked at. */
 #include "test.h"
 
 /* The source is NULL or has two bytes, and each table is NULL or long enough, by the bits of a number. */
@@ -50,12 +51,22 @@ static void unescape_lending(void) {
     CHECK(c.refusal == 0 && c.count == 0);
 }
 
+static void too_long(void) {
+    size_t bytes = SHADER_SOURCE_LIMIT + 1;
+    CHECK(shader_read(NULL, bytes, NULL, 0, NULL, 0, NULL, 0).refusal == SHADER_REFUSAL_LENGTH);
+    CHECK(shader_define_body(NULL, bytes, NULL, 0).refusal == SHADER_REFUSAL_LENGTH);
+    CHECK(shader_tokens(NULL, bytes, NULL, 0).refusal == SHADER_REFUSAL_LENGTH);
+    CHECK(shader_line_table(NULL, bytes, NULL, 0).refusal == SHADER_REFUSAL_LENGTH);
+    CHECK(shader_unescape(NULL, SIZE_MAX, NULL, 0).refusal == SHADER_REFUSAL_LENGTH);
+}
+
 int main(void) {
     for (unsigned bits = 0; bits < 16; bits++) read_lending(bits);
     count_lending(shader_define_body, 1, SHADER_REFUSAL_ENTRIES, SHADER_REFUSAL_ENTRIES);
     count_lending(shader_tokens, 0, SHADER_REFUSAL_ENTRIES, SHADER_REFUSAL_NONE);
     count_lending(shader_line_table, 1, SHADER_REFUSAL_LINES, SHADER_REFUSAL_LINES);
     unescape_lending();
+    too_long();
     CHECK(shader_lookup(NULL, 0, 3).refusal == SHADER_REFUSAL_LOOKUP);
     CHECK(shader_find_line(NULL, 0, 3).refusal == SHADER_REFUSAL_LOOKUP);
     return told("null");
