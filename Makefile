@@ -27,8 +27,10 @@ library: $(made)
 	@test -r "$(library)" || { echo "$(library) can't be read" >&2; exit 2; }
 	@echo "$(library) is there" >&2
 
-build/libshader_reader.a: crates.txt $(shell find crates -type f '(' -path '*/src/*' -o -path '*/specs/*' -o -path '*/proofs/*' ')')
-	@command -v rt >/dev/null || { echo 'rt, the Rattle toolchain, is not found: install it, or set SHADER_READER_LIB' >&2; exit 2; }
+sources := $(shell find crates -type f '(' -path '*/src/*' -o -path '*/specs/*' -o -path '*/proofs/*' ')')
+build/libshader_reader.a: crates.txt $(sources)
+	@command -v rt >/dev/null || \
+		{ echo 'rt, the Rattle toolchain, is not found: install it, or set SHADER_READER_LIB' >&2; exit 2; }
 	@echo 'proving the crates, which takes some minutes' >&2
 	@rt staticlib shader_reader >&2
 	@mkdir -p build
@@ -37,9 +39,11 @@ build/libshader_reader.a: crates.txt $(shell find crates -type f '(' -path '*/sr
 shared: build/$(soname)
 build/$(soname): $(made)
 	@mkdir -p build
-	$(CC) $(LDFLAGS) -shared -Wl,-soname,$(soname) -Wl,-z,text -Wl,-z,defs -Wl,--whole-archive "$(library)" -Wl,--no-whole-archive -o build/libshader_reader.so.$(version)
+	@$(CC) $(LDFLAGS) -shared -Wl,-soname,$(soname) -Wl,-z,text -Wl,-z,defs \
+		-Wl,--whole-archive "$(library)" -Wl,--no-whole-archive -o build/libshader_reader.so.$(version)
 	@ln -sf libshader_reader.so.$(version) build/libshader_reader.so
 	@ln -sf libshader_reader.so.$(version) $@
+	@echo 'build/libshader_reader.so is there' >&2
 
 build/read: hosts/c/read.c include/shader_reader.h $(made)
 	@mkdir -p build
@@ -48,12 +52,14 @@ build/read: hosts/c/read.c include/shader_reader.h $(made)
 # The file is looked at before anything is proved; standard output has the listing alone.
 read tokens:
 	@test -n "$$FILE" || { echo 'which file? make $@ FILE=examples/layer_mask.frag' >&2; exit 2; }
-	@test "$$FILE" = - || { test -r "$$FILE" && ! test -d "$$FILE"; } || { printf "%s can't be read\n" "$$FILE" >&2; exit 2; }
+	@test "$$FILE" = - || { test -r "$$FILE" && ! test -d "$$FILE"; } || \
+		{ printf "%s can't be read\n" "$$FILE" >&2; exit 2; }
 	@$(MAKE) FILE= build/read >&2
 	@build/read $(if $(filter read,$@),listing,tokens) "$$FILE"
 
 shader-tree: $(made)
-	@SHADER_READER_LIB="$$(realpath "$(library)")" cargo build --quiet --offline --release --manifest-path hosts/shader-tree/Cargo.toml --target-dir build/cargo
+	@SHADER_READER_LIB="$$(realpath "$(library)")" cargo build --quiet --offline --release \
+		--manifest-path hosts/shader-tree/Cargo.toml --target-dir build/cargo
 	@cp build/cargo/release/shader-tree build/shader-tree
 	@echo 'build/shader-tree is there' >&2
 

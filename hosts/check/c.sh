@@ -1,10 +1,12 @@
 # C and C++: the header alone, the tests of hosts/c/tests, the two programs of hosts/c; a part of hosts/check/run.
 strict="-Wall -Wextra -Wpedantic -Werror -Iinclude"
+sanitizers="address and undefined-behaviour sanitizers"
 sanitize="-g -fsanitize=address,undefined -fno-sanitize-recover=all"
 tests="calls null search helpers threads"
 runner=
 
-# Compiles a test and runs it: test_with COMPILER TEST [FLAGS..]. `helpers` is told the samples, for which a guess must suffice.
+# Compiles a test and runs it: test_with COMPILER TEST [FLAGS..]. `helpers` is told the samples, for which the guess must
+# suffice.
 test_with() {
     compiler=$1 test=$2 words=
     shift 2
@@ -42,16 +44,16 @@ for c in gcc clang; do
     try "$c: the header, C99 to C17" header_alone $c c "c99 c11 c17"
     suite "$c -O2" $c "$tests stack" -O2
     suite "$c -O0" $c "$tests" -O0
-    suite "$c, address and undefined-behaviour sanitizers" $c "$tests" $sanitize
+    can "$c, $sanitizers" $c $sanitize && suite "$c, $sanitizers" $c "$tests" $sanitize
 done
 for c in g++ clang++; do
     needs $c "C++ with $c" || continue
     try "$c: the header, C++11 to C++20" header_alone $c cpp "c++11 c++14 c++17 c++20"
     suite "$c -O2" $c plus -O2
-    suite "$c, address and undefined-behaviour sanitizers" $c plus $sanitize
+    can "$c, $sanitizers" $c $sanitize && suite "$c, $sanitizers" $c plus $sanitize
     try "$c: errors of the samples" errors_of_samples $c
 done
-suite "gcc -static" gcc "$tests stack" -O2 -static
+can "gcc -static" gcc -static && suite "gcc -static" gcc "$tests stack" -O2 -static
 if needs musl-gcc "C with musl"; then
     suite "musl-gcc" musl-gcc "$tests stack" -O2
     suite "musl-gcc -static" musl-gcc "$tests stack" -O2 -static

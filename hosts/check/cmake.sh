@@ -11,5 +11,9 @@ ldd "$work/cmake/listing-shared" | grep -q "$1/lib/libshader_reader.so"
 
 # Another version is refused.
 mkdir -p "$work/other"
-printf 'cmake_minimum_required(VERSION 3.10)\nproject(other C)\nfind_package(shader_reader 0.0 REQUIRED)\n' >"$work/other/CMakeLists.txt"
+cat >"$work/other/CMakeLists.txt" <<END
+cmake_minimum_required(VERSION 3.10)
+project(other C)
+find_package(shader_reader 0.0 REQUIRED)
+END
 if cmake -S "$work/other" -B "$work/other/build" -DCMAKE_PREFIX_PATH="$1"; then exit 1; fi

@@ -24,7 +24,9 @@ run() {
     [ "$got" -eq "$wanted" ] || { echo "status $got, not $wanted: $*"; cat "$work/out" "$work/err"; exit 1; }
 }
 printed() { diff "$1" "$work/out" || { echo "that is what was printed"; exit 1; }; }
-calls() { [ "$(wc -l <"$work/rt-calls")" -eq "$1" ] || { echo "rt was not called $1 times:"; cat "$work/rt-calls"; exit 1; }; }
+calls() {
+    [ "$(wc -l <"$work/rt-calls")" -eq "$1" ] || { echo "rt was not called $1 times:"; cat "$work/rt-calls"; exit 1; }
+}
 
 run 0 make
 printed hosts/check/help

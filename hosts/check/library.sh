@@ -6,7 +6,9 @@ symbols() {
     awk '$1 == "U" { print $2 }' "$work/symbols" | sort -u | diff - "$work/memset" || return 1
     awk '$2 == "T" { print $3 }' "$work/symbols" | sort | diff - "$work/calls" || return 1
     ! grep -i ' [bcdgs] ' "$work/symbols" || return 1
-    size -A "$library" | awk '$1 ~ /^\.(data|bss|tdata|tbss|init_array|ctors)/ && $2 > 0 { print; found = 1 } END { exit found }'
+    size -A "$library" | awk '
+        $1 ~ /^\.(data|bss|tdata|tbss|init_array|ctors)/ && $2 > 0 { print; found = 1 }
+        END { exit found }'
 }
 
 names_of_kinds() {

@@ -2,7 +2,8 @@
 
 # cargo_test PACKAGE
 cargo_test() {
-    SHADER_READER_LIB=$library cargo test --offline --quiet --manifest-path "$copy/hosts/$1/Cargo.toml" --target-dir "$work/cargo"
+    SHADER_READER_LIB=$library cargo test --offline --quiet --target-dir "$work/cargo" \
+        --manifest-path "$copy/hosts/$1/Cargo.toml"
 }
 
 # The same in edition 2024, which needs a newer cargo than the package does; the package is left as it was.

@@ -4,7 +4,8 @@ set -eu
 unset MAKEFLAGS MFLAGS MAKELEVEL
 cd "$1"
 SHADER_READER_LIB=$library make shared
-nm -D --defined-only build/libshader_reader.so | awk '$2 == "T" && $3 !~ /^_(init|fini)$/ { print $3 }' | sort | diff "$work/calls" -
+nm -D --defined-only build/libshader_reader.so >"$work/exports"
+awk '$2 == "T" && $3 !~ /^_(init|fini)$/ { print $3 }' "$work/exports" | sort | diff "$work/calls" -
 readelf -d build/libshader_reader.so >"$work/dynamic"
 grep -q 'SONAME.*libshader_reader.so.[0-9]*.[0-9]*\]' "$work/dynamic"
 if grep TEXTREL "$work/dynamic"; then exit 1; fi

@@ -51,5 +51,6 @@ if [ -f "$top/build/libshader_reader.so.$version" ]; then
 fi
 if [ -f "$top/build/shader-tree" ]; then
     put 755 "$prefix/bin" "$top/build/shader-tree"
-    [ ! -f "$top/hosts/shader-tree/shader-tree.1" ] || put 644 "$prefix/share/man/man1" "$top/hosts/shader-tree/shader-tree.1"
+    page=$top/hosts/shader-tree/shader-tree.1
+    [ ! -f "$page" ] || put 644 "$prefix/share/man/man1" "$page"
 fi
