@@ -1,0 +1,68 @@
+# C and C++: the header alone, the tests of hosts/c/tests, the two programs of hosts/c; a part of hosts/check/run.
+strict="-Wall -Wextra -Wpedantic -Werror -Iinclude"
+sanitizers="address and undefined-behaviour sanitizers"
+sanitize="-g -fsanitize=address,undefined -fno-sanitize-recover=all"
+tests="calls null search helpers threads"
+runner=
+
+# Compiles a test and runs it: test_with COMPILER TEST [FLAGS..]. `helpers` is told the samples, for which the guess must
+# suffice.
+test_with() {
+    compiler=$1 test=$2 words=
+    shift 2
+    case $compiler in *++) source=$test.cpp standard=c++11 ;; *) source=$test.c standard=c99 ;; esac
+    case $test in helpers) words=$(ls examples/*.frag) ;; esac
+    $compiler -std=$standard $strict -pthread "hosts/c/tests/$source" "$library" -o "$work/test" "$@" || return 1
+    $runner "$work/test" $words
+}
+
+# suite LABEL COMPILER TESTS [FLAGS..]
+suite() {
+    label=$1 with=$2 all=$3
+    shift 3
+    for one in $all; do try "$label: $one" test_with "$with" "$one" "$@"; done
+}
+
+# The header in two files of one program, by each standard: header_alone COMPILER SUFFIX STANDARDS
+header_alone() {
+    echo '#include "shader_reader.h"' >"$work/one.$2"
+    printf '#include "shader_reader.h"\nint main(void) { return 0; }\n' >"$work/two.$2"
+    for standard in $3; do
+        $1 -std="$standard" $strict -Wconversion -Wshadow "$work/one.$2" "$work/two.$2" -o "$work/alone" || return 1
+    done
+}
+
+# hosts/c/errors.cpp says what is stored, and nothing of a sample without errors.
+errors_of_samples() {
+    $1 -std=c++11 -O2 $strict hosts/c/errors.cpp "$library" -o "$work/errors" || return 1
+    "$work/errors" examples/errors.frag | diff hosts/c/tests/errors.txt - || return 1
+    [ -z "$("$work/errors" examples/layer_mask.frag)" ] && "$work/errors" examples/three_lines.frag
+}
+
+for c in gcc clang; do
+    needs $c "C with $c" || continue
+    try "$c: the header, C99 to C17" header_alone $c c "c99 c11 c17"
+    suite "$c -O2" $c "$tests stack" -O2
+    suite "$c -O0" $c "$tests" -O0
+    can "$c, $sanitizers" $c $sanitize && suite "$c, $sanitizers" $c "$tests" $sanitize
+done
+for c in g++ clang++; do
+    needs $c "C++ with $c" || continue
+    try "$c: the header, C++11 to C++20" header_alone $c cpp "c++11 c++14 c++17 c++20"
+    suite "$c -O2" $c plus -O2
+    can "$c, $sanitizers" $c $sanitize && suite "$c, $sanitizers" $c plus $sanitize
+    try "$c: errors of the samples" errors_of_samples $c
+done
+can "gcc -static" gcc -static && suite "gcc -static" gcc "$tests stack" -O2 -static
+if needs musl-gcc "C with musl"; then
+    suite "musl-gcc" musl-gcc "$tests stack" -O2
+    suite "musl-gcc -static" musl-gcc "$tests stack" -O2 -static
+fi
+if needs valgrind "tests under valgrind"; then
+    runner="valgrind --quiet --error-exitcode=9"
+    suite "valgrind" gcc "calls null search helpers" -O1 -g
+    runner="valgrind --quiet --tool=helgrind --error-exitcode=9"
+    suite "valgrind, races" gcc threads -O1 -g
+    runner=
+fi
+try "hosts/c/read.c: listings and tokens" hosts/check/read.sh

@@ -1,0 +1,32 @@
+#!/bin/sh
+# The command line as make builds it, on the samples and on bad files: shader-tree.sh COPY; hosts/check/run calls it.
+set -eu
+unset MAKEFLAGS MFLAGS MAKELEVEL
+cd "$1"
+SHADER_READER_LIB=$library make shader-tree
+tree=build/shader-tree
+gcc -O2 -Iinclude hosts/c/read.c "$library" -o "$work/read"
+
+# status STATUS WORDS..: the exit status of the command line.
+status() {
+    wanted=$1 got=0
+    shift
+    "$tree" "$@" >"$work/out" 2>"$work/err" </dev/null || got=$?
+    [ "$got" -eq "$wanted" ] || { echo "status $got, not $wanted: shader-tree $*"; cat "$work/err"; exit 1; }
+}
+
+for sample in examples/*.frag; do
+    "$tree" --listing $sample >"$work/out" 2>"$work/err" || true
+    "$work/read" listing $sample | diff - "$work/out"
+done
+status 0 --check examples/layer_mask.frag
+status 1 --check examples/errors.frag
+status 2 --check "$work/nothing"
+status 2 --no-such-word
+printf 'a\377' >"$work/latin"
+status 1 --check "$work/latin"
+head -c 16777217 /dev/zero >"$work/long"
+status 1 --check "$work/long"
+if "$tree" examples/layer_mask.frag >/dev/full 2>"$work/err"; then echo "a full disk was not told"; exit 1; fi
+SHADER_READER_LIB=$library make install PREFIX="$work/with-tree"
+"$work/with-tree/bin/shader-tree" --help >/dev/null
