@@ -175,8 +175,8 @@ impl<'a> Node<'a> {
 
     /// The place behind the last entry below this one.
     ///
-    /// Starts never fall along a table. What lies below starts before this one's end, or is an empty node at that end;
-    /// such nodes are few, since they come from one missing piece.
+    /// Starts never fall along a table. What lies below starts before this one's end, or is an empty node at that end,
+    /// of which a directive has two at most.
     fn behind(&self) -> usize {
         let count = self.table.len() / Entry::NUMBERS;
         let below = |place: usize| self.table[place * Entry::NUMBERS + START] < self.entry.end;
