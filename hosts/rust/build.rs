@@ -32,13 +32,13 @@ fn library() -> Result<PathBuf, String> {
         rerun_if_changed(&named);
         return if named.is_file() { Ok(named) } else { Err(format!("{VARIABLE}: {} is no file", named.display())) };
     }
-    let root = package.join("../..");
+    let root = package.ancestors().nth(2).unwrap_or(&package);
     let built = root.join("build").join(FILE);
     if built.is_file() {
         rerun_if_changed(&built);
         return Ok(built);
     }
-    prove(&root)
+    prove(root)
 }
 
 /// Runs `rt staticlib shader_reader` in the repository's root.
@@ -56,8 +56,7 @@ fn prove(root: &Path) -> Result<PathBuf, String> {
     }
 }
 
-const ADVICE: &str =
-    "set SHADER_READER_LIB to a built libshader_reader.a, or run `make library` in the repository's root";
+const ADVICE: &str = "set SHADER_READER_LIB to the path of a built libshader_reader.a";
 
 fn rerun_if_changed(path: &Path) {
     println!("cargo:rerun-if-changed={}", path.display());

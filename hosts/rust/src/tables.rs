@@ -11,7 +11,8 @@ use crate::SOURCE_LIMIT;
 pub(crate) struct Size {
     /// The numbers of a row.
     row: usize,
-    /// Rows that nearly always suffice: shaders as people write them have a leaf for every 3.5 bytes.
+    /// Rows that nearly always suffice: of 4,835 shaders of glslang's and SPIRV-Cross's tests, 46 needed more entries,
+    /// one more lines and none more errors.
     guess: fn(usize) -> usize,
     /// How many times as many are lent after a refusal.
     growth: usize,
@@ -19,10 +20,10 @@ pub(crate) struct Size {
     bound: fn(usize) -> usize,
 }
 
-pub(crate) const ENTRIES: Size = Size { row: Entry::NUMBERS, guess: |n| n / 3 + 64, growth: 2, bound: |n| 8 * n + 1 };
+pub(crate) const ENTRIES: Size = Size { row: Entry::NUMBERS, guess: |n| n / 2 + 64, growth: 2, bound: |n| 8 * n + 1 };
 pub(crate) const ERRORS: Size = Size { row: Error::NUMBERS, guess: |n| n / 256 + 16, growth: 8, bound: |n| 8 * n };
 pub(crate) const LINES: Size = Size { row: 1, guess: |n| n / 16 + 64, growth: 16, bound: |n| n + 1 };
-pub(crate) const TOKENS: Size = Size { row: Token::NUMBERS, guess: |n| n / 3 + 64, growth: 2, bound: |n| n };
+pub(crate) const TOKENS: Size = Size { row: Token::NUMBERS, guess: |n| n / 2 + 64, growth: 2, bound: |n| n };
 
 /// The bytes that tables are made for: a source above the limit is refused whatever it is lent.
 fn counted(bytes: usize) -> usize {
@@ -122,10 +123,10 @@ mod tests {
 
     #[test]
     fn tables_grow_to_the_proved_bound() {
-        assert_eq!(lent(ENTRIES, 300), [164, 328, 656, 1312, 2401]);
+        assert_eq!(lent(ENTRIES, 300), [214, 428, 856, 1712, 2401]);
         assert_eq!(lent(ERRORS, 300), [17, 136, 1088, 2400]);
         assert_eq!(lent(LINES, 300), [82, 301]);
-        assert_eq!(lent(TOKENS, 300), [164, 300]);
+        assert_eq!(lent(TOKENS, 300), [214, 300]);
         for bytes in (0..3000).chain([SOURCE_LIMIT - 1, SOURCE_LIMIT]) {
             assert_eq!(lent(ENTRIES, bytes).last(), Some(&(8 * bytes + 1)));
             assert_eq!(lent(ERRORS, bytes).last(), Some(&(8 * bytes)));
