@@ -1,0 +1,153 @@
+//! What a source that is refused, or read otherwise than meant, looks like, and what helps.
+
+use shader_reader::{line_table, Entry, Refusal, SyntaxKind, Tables, View, CONCAT_LIMIT, SOURCE_LIMIT};
+
+use crate::diagnostics::{Level, Message};
+use crate::input::Source;
+use crate::text::grouped;
+
+const BOM: &[u8] = b"\xef\xbb\xbf";
+
+/// The message about a refused source, and the starts of the lines that it needs.
+pub fn of_refusal(refusal: Refusal, source: &Source, tables: &mut Tables) -> (Message, Vec<u32>) {
+    let bytes = &source.bytes;
+    match refusal {
+        Refusal::Length => (too_long(source.length), vec![0]),
+        Refusal::Utf8 => not_utf8(bytes),
+        Refusal::Concats => (too_many_concats(bytes, tables), line_table(bytes).unwrap_or_else(|_| vec![0])),
+        other => (error(other.to_string(), None), vec![0]),
+    }
+}
+
+fn error(sentence: String, help: Option<String>) -> Message {
+    Message { level: Level::Error, range: None, sentence, help }
+}
+
+fn too_long(length: Option<u64>) -> Message {
+    let limit = grouped(SOURCE_LIMIT as u64);
+    let sentence = match length {
+        Some(length) => format!("the source has {} bytes: at most {limit} are read", grouped(length)),
+        None => format!("the source has more than {limit} bytes: at most so many are read"),
+    };
+    error(sentence, Some("read it in parts".into()))
+}
+
+fn not_utf8(bytes: &[u8]) -> (Message, Vec<u32>) {
+    let Err(wrong) = std::str::from_utf8(bytes) else {
+        return (error(Refusal::Utf8.to_string(), None), vec![0]);
+    };
+    let at = wrong.valid_up_to();
+    let end = wrong.error_len().map_or(bytes.len(), |length| at + length);
+    let byte = bytes[at];
+    let sentence = format!("not UTF-8: byte 0x{byte:02X} at offset {at}");
+    let help = match wrong.error_len() {
+        _ if utf16(bytes).is_some() => utf16_help(bytes),
+        None => "the source ends within a character: it may be cut off".into(),
+        _ if stands_alone(bytes, at) => single_byte_help(byte),
+        _ => "save it as UTF-8".into(),
+    };
+    // What stands before the byte is UTF-8.
+    let lines = line_table(&bytes[..at]).unwrap_or_else(|_| vec![0]);
+    (Message { range: Some(at..end), ..error(sentence, Some(help)) }, lines)
+}
+
+#[derive(Debug, Clone, Copy, PartialEq, Eq)]
+enum Utf16 {
+    Little,
+    Big,
+}
+
+/// Whether bytes look like UTF-16: by a byte order mark, or by a zero in most pairs, on one side.
+fn utf16(bytes: &[u8]) -> Option<Utf16> {
+    match bytes {
+        [0xff, 0xfe, ..] => return Some(Utf16::Little),
+        [0xfe, 0xff, ..] => return Some(Utf16::Big),
+        _ => {}
+    }
+    let pairs = || bytes.chunks_exact(2).take(512);
+    let most = |count: usize| pairs().count() >= 2 && count * 10 >= pairs().count() * 8;
+    if most(pairs().filter(|pair| pair[0] != 0 && pair[1] == 0).count()) {
+        Some(Utf16::Little)
+    } else if most(pairs().filter(|pair| pair[0] == 0 && pair[1] != 0).count()) {
+        Some(Utf16::Big)
+    } else {
+        None
+    }
+}
+
+fn utf16_help(bytes: &[u8]) -> String {
+    let name = if utf16(bytes) == Some(Utf16::Big) { "UTF-16BE" } else { "UTF-16LE" };
+    format!("this looks like UTF-16 ({name}): convert it, as by iconv -f UTF-16 -t UTF-8")
+}
+
+/// A byte above ASCII between ASCII.
+fn stands_alone(bytes: &[u8], at: usize) -> bool {
+    let ascii = |byte: Option<&u8>| byte.is_none_or(u8::is_ascii);
+    bytes[at] >= 0x80 && ascii(at.checked_sub(1).and_then(|at| bytes.get(at))) && ascii(bytes.get(at + 1))
+}
+
+fn single_byte_help(byte: u8) -> String {
+    let name = if byte < 0xa0 { "Windows-1252" } else { "Latin-1 (ISO 8859-1) or Windows-1252" };
+    format!("this looks like {name}: convert it, as by iconv -f WINDOWS-1252 -t UTF-8")
+}
+
+/// The shortest beginning that is refused ends with the ## that is one too many.
+fn too_many_concats(bytes: &[u8], tables: &mut Tables) -> Message {
+    let (mut kept, mut refused) = (0, bytes.len());
+    while refused - kept > 1 {
+        let middle = kept + (refused - kept) / 2;
+        let whole = middle - std::str::from_utf8(&bytes[..middle]).map_or_else(|e| middle - e.valid_up_to(), |_| 0);
+        match tables.read(&bytes[..whole]) {
+            Err(Refusal::Concats) => refused = whole,
+            _ => kept = middle,
+        }
+    }
+    let sentence = format!("a body with more than {CONCAT_LIMIT} ##: this is one too many");
+    let help = "split the body into several macros".into();
+    Message { range: Some(refused.saturating_sub(2)..refused), ..error(sentence, Some(help)) }
+}
+
+/// A note about the first ERROR leaf that no error covers: the reader counts no error there.
+pub fn of_error_leaf(bytes: &[u8], reading: &View) -> Option<Message> {
+    let mut covered: Vec<_> = reading.errors().map(|error| error.range()).collect();
+    covered.sort_by_key(|range| range.start);
+    let mut covered = covered.into_iter().peekable();
+    let mut leaves = reading.leaves().filter(|leaf| leaf.kind == SyntaxKind::ERROR).filter(|leaf| {
+        while covered.next_if(|range| range.end <= leaf.start as usize).is_some() {}
+        covered.peek().is_none_or(|range| range.start > leaf.start as usize)
+    });
+    let first = leaves.next()?;
+    let more = leaves.count();
+    let (sentence, help) = error_leaf(bytes, &first);
+    let sentence = match more {
+        0 => sentence.into(),
+        1 => format!("{sentence} (there is 1 more such leaf)"),
+        _ => format!("{sentence} (there are {} more such leaves)", grouped(more as u64)),
+    };
+    Some(Message { level: Level::Note, range: Some(first.range()), sentence, help })
+}
+
+fn error_leaf(bytes: &[u8], leaf: &Entry) -> (&'static str, Option<String>) {
+    let text = leaf.text(bytes);
+    if leaf.start == 0 && text == BOM {
+        return byte_order_mark(bytes);
+    }
+    match text {
+        [0] if utf16(bytes).is_some() => ("a zero byte is an ERROR leaf", Some(utf16_help(bytes))),
+        [b'/', b'*', ..] => ("this comment does not end: it is an ERROR leaf up to the end of the source", None),
+        [b'"' | b'<', ..] => ("this string does not end: it is an ERROR leaf up to the end of the source", None),
+        _ => ("no token begins with this character: it is an ERROR leaf", None),
+    }
+}
+
+/// A mark before a # makes text of the directive.
+fn byte_order_mark(bytes: &[u8]) -> (&'static str, Option<String>) {
+    let help = Some("save it as UTF-8 without a byte order mark".into());
+    let behind = shader_reader::tokens(&bytes[BOM.len()..]).unwrap_or_default();
+    match behind.iter().find(|token| !token.kind.is_trivia()) {
+        Some(token) if token.kind == SyntaxKind::HASH => {
+            ("a byte order mark is an ERROR leaf, and makes text of the directive behind it", help)
+        }
+        _ => ("a byte order mark is an ERROR leaf", help),
+    }
+}
