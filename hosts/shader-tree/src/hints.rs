@@ -76,8 +76,12 @@ fn utf16(bytes: &[u8]) -> Option<Utf16> {
 }
 
 fn utf16_help(bytes: &[u8]) -> String {
-    let name = if utf16(bytes) == Some(Utf16::Big) { "UTF-16BE" } else { "UTF-16LE" };
-    format!("this looks like UTF-16 ({name}): convert it, as by iconv -f UTF-16 -t UTF-8")
+    let name = match utf16(bytes) {
+        _ if matches!(bytes, [0xff, 0xfe, ..] | [0xfe, 0xff, ..]) => "UTF-16",
+        Some(Utf16::Big) => "UTF-16BE",
+        _ => "UTF-16LE",
+    };
+    format!("this looks like UTF-16: convert it, for instance by iconv -f {name} -t UTF-8")
 }
 
 /// A byte above ASCII between ASCII.
@@ -88,7 +92,7 @@ fn stands_alone(bytes: &[u8], at: usize) -> bool {
 
 fn single_byte_help(byte: u8) -> String {
     let name = if byte < 0xa0 { "Windows-1252" } else { "Latin-1 (ISO 8859-1) or Windows-1252" };
-    format!("this looks like {name}: convert it, as by iconv -f WINDOWS-1252 -t UTF-8")
+    format!("this looks like {name}: convert it, for instance by iconv -f WINDOWS-1252 -t UTF-8")
 }
 
 /// The shortest beginning that is refused ends with the ## that is one too many.

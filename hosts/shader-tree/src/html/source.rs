@@ -13,6 +13,9 @@ use crate::excerpt::Layout;
 /// A mark behind so many bytes of a line says its column instead of standing under its bytes.
 const ALIGNED: usize = 2000;
 
+/// The newline stands within the line: between lines it would be one more.
+const LINE_END: &[u8] = b"\n</span></span>";
+
 pub fn write(
     file: usize,
     origin: Origin,
@@ -99,7 +102,7 @@ impl<'a> Pane<'a> {
             write!(self.out, " <a class=\"tag\" href=\"#f{}-{place}\">{}</a>", self.file, entry.kind)?;
             self.named = false;
         }
-        writeln!(self.out, "</span></span>")
+        self.out.write_all(LINE_END)
     }
 
     /// The part of a leaf that stands on a line.
@@ -111,14 +114,15 @@ impl<'a> Pane<'a> {
             self.met += 1;
         }
         let wrong = leaf.start < self.covered;
+        let text = match without_newline(&self.origin.bytes[part]) {
+            [] if wrong => "⏎".as_bytes(),
+            [] => return Ok(()),
+            text => text,
+        };
         let more = if wrong { " wrong" } else { "" };
         let Entry { kind, start, end, .. } = leaf;
         write!(self.out, "<span class=\"{}{more}\" title=\"{kind} {start}..{end}\">", class(*kind))?;
-        let text = &self.origin.bytes[part];
-        write_text(without_newline(text), self.out)?;
-        if wrong && *kind == SyntaxKind::NEWLINE {
-            write!(self.out, "⏎")?;
-        }
+        write_text(text, self.out)?;
         write!(self.out, "</span>")
     }
 
@@ -181,7 +185,7 @@ impl<'a> Pane<'a> {
             write!(self.out, " - ")?;
             write_text(help.as_bytes(), self.out)?;
         }
-        writeln!(self.out, "</span></span>")
+        self.out.write_all(LINE_END)
     }
 }
 
