@@ -8,11 +8,11 @@ const VARIABLE: &str = "SHADER_READER_LIB";
 const FILE: &str = "libshader_reader.a";
 
 fn main() {
-    println!("cargo:rerun-if-changed=build.rs");
     println!("cargo:rerun-if-env-changed={VARIABLE}");
     let library = library().unwrap_or_else(|words| fail(&words));
     let out = PathBuf::from(env::var_os("OUT_DIR").expect("cargo sets OUT_DIR"));
-    if let Err(error) = fs::copy(&library, out.join(FILE)) {
+    // Written and not copied, so that a file without write permission does not make one here.
+    if let Err(error) = fs::read(&library).and_then(|bytes| fs::write(out.join(FILE), bytes)) {
         fail(&format!("{} can't be copied to {}: {error}", library.display(), out.display()));
     }
     println!("cargo:rustc-link-search=native={}", out.display());
@@ -26,23 +26,19 @@ fn fail(words: &str) -> ! {
 
 /// The file that the variable names, or the one that `make library` wrote, or one that is built now.
 fn library() -> Result<PathBuf, String> {
-    if let Some(named) = env::var_os(VARIABLE) {
-        let named = PathBuf::from(named);
-        rerun_if_changed(&named);
-        return if named.is_file() {
-            Ok(named)
-        } else {
-            Err(format!("{VARIABLE} is {}, which is no file", named.display()))
-        };
-    }
     let package = PathBuf::from(env::var_os("CARGO_MANIFEST_DIR").expect("cargo sets CARGO_MANIFEST_DIR"));
-    let root = package.join("../..");
+    if let Some(named) = env::var_os(VARIABLE).filter(|named| !named.is_empty()) {
+        let named = package.join(named);
+        rerun_if_changed(&named);
+        return if named.is_file() { Ok(named) } else { Err(format!("{VARIABLE}: {} is no file", named.display())) };
+    }
+    let root = package.ancestors().nth(2).unwrap_or(&package);
     let built = root.join("build").join(FILE);
     if built.is_file() {
         rerun_if_changed(&built);
         return Ok(built);
     }
-    prove(&root)
+    prove(root)
 }
 
 /// Runs `rt staticlib shader_reader` in the repository's root.
@@ -60,8 +56,7 @@ fn prove(root: &Path) -> Result<PathBuf, String> {
     }
 }
 
-const ADVICE: &str =
-    "set SHADER_READER_LIB to a built libshader_reader.a, or run `make library` in the repository's root";
+const ADVICE: &str = "set SHADER_READER_LIB to the path of a built libshader_reader.a";
 
 fn rerun_if_changed(path: &Path) {
     println!("cargo:rerun-if-changed={}", path.display());

@@ -51,3 +51,22 @@ unsafe extern "C" {
     /// Takes numbers alone, so that nothing is asked of its caller.
     pub safe fn shader_paste(lhs: u32, rhs: u32) -> Pasted;
 }
+
+#[cfg(test)]
+mod tests {
+    use super::*;
+    use crate::{Refusal, SyntaxKind};
+
+    /// Refusals that the typed calls never meet, since they lend enough and know the kinds.
+    #[test]
+    fn short_outputs_and_numbers_that_are_no_kinds_are_refused() {
+        let (text, mut output) = (b"a\\\nbc", [7; 2]);
+        // SAFETY: the pointers are valid for the lengths, and the output is an array of its own.
+        let answer = unsafe { shader_unescape(text.as_ptr(), text.len(), output.as_mut_ptr(), output.len()) };
+        assert_eq!((answer.refusal, answer.count, output), (Refusal::Output.number(), 0, [0; 2]));
+        for (lhs, rhs) in [(0, 1), (1, 0), (87, 1), (1, u32::MAX), (SyntaxKind::LINECONT as u32, 1)] {
+            let answer = shader_paste(lhs, rhs);
+            assert_eq!((answer.refusal, answer.kind), (Refusal::Kind.number(), 0));
+        }
+    }
+}

@@ -52,6 +52,11 @@ pub const SOURCE_LIMIT: usize = 16_777_216;
 /// A body has at most so many `##`.
 pub const CONCAT_LIMIT: usize = 256;
 
+/// The examples of README.md run as tests.
+#[cfg(doctest)]
+#[doc = include_str!("../README.md")]
+struct Readme;
+
 /// Ends the program: the linked library gave a number that this package does not know.
 fn other_library(what: &str, number: u32) -> ! {
     panic!("libshader_reader.a is not the one that this package was made for: it gave the {what} {number}")

@@ -1,6 +1,7 @@
 //! Lines and columns.
 use crate::ffi;
 use crate::refusal::Refusal;
+use crate::tables;
 
 /// A line and a column, from 0; columns count bytes.
 #[derive(Debug, Clone, Copy, PartialEq, Eq, PartialOrd, Ord, Hash)]
@@ -30,17 +31,20 @@ impl Place {
     }
 }
 
-/// The offset where each line of a source starts.
+/// The offset where each line of a source starts: 0, and the end of each newline. Refusals: [`Length`](Refusal::Length),
+/// [`Utf8`](Refusal::Utf8).
 pub fn line_table(src: &[u8]) -> Result<Vec<u32>, Refusal> {
-    crate::tables::grown(src.len(), crate::tables::LINES, |lines| {
+    let lines = tables::grown(src.len(), tables::LINES, |lines| {
         // SAFETY: the slices' pointers are valid for their lengths, and the table is borrowed alone.
         let answer = unsafe { ffi::shader_line_table(src.as_ptr(), src.len(), lines.as_mut_ptr(), lines.len()) };
         Refusal::check(answer.refusal).map(|()| answer.count as usize)
-    })
+    })?;
+    Ok(lines.into_vec())
 }
 
-/// Line and column of an offset under any table of line starts, which is read whole and refused
-/// ([`Refusal::Lookup`]) if it does not start at 0 or does not rise; past the last start too.
+/// Line and column of an offset under any table of line starts. The table is read whole at each call, and refused
+/// ([`Lookup`](Refusal::Lookup)) if it does not start at 0 or does not rise: under a table that a call has filled,
+/// [`Place::within`] finds the same place by search. An offset past the end lies on the last line.
 pub fn lookup(lines: &[u32], offset: u32) -> Result<Place, Refusal> {
     // SAFETY: the slice's pointer is valid for its length.
     let answer = unsafe { ffi::shader_lookup(lines.as_ptr(), lines.len(), offset) };

@@ -1,14 +1,14 @@
 //! Reading a source, and a define body.
+use std::fmt;
 use std::ops::Range;
 
-use crate::error::Errors;
+use crate::error::{Error, Errors};
 use crate::ffi;
 use crate::lines::Place;
 use crate::refusal::Refusal;
 use crate::rows::{Row, Rows};
 use crate::tables::{self, Table};
 use crate::tree::{Entries, Entry, Node, Tree};
-use crate::Error;
 
 /// The reading of a source: its tree, its errors and its lines.
 ///
@@ -29,17 +29,22 @@ use crate::Error;
 /// let body = define.children().find(|child| child.kind == SyntaxKind::PP_DEFINE_BODY).unwrap();
 /// assert_eq!(body.text(src), b"3.14");
 /// ```
-#[derive(Debug, Clone, PartialEq, Eq)]
+#[derive(Clone, Copy, PartialEq, Eq, Hash)]
 pub struct Reading<T = Box<[u32]>> {
     tree: Tree<T>,
     errors: T,
     lines: T,
 }
 
-/// A reading in tables that are borrowed.
+/// A reading in tables that are borrowed: those of [`read_with`], of [`Tables`], or of a [`Reading`].
 pub type View<'a> = Reading<&'a [u32]>;
 
 impl<T: AsRef<[u32]>> Reading<T> {
+    /// The same reading, borrowed.
+    pub fn view(&self) -> View<'_> {
+        Reading { tree: self.tree.view(), errors: self.errors.as_ref(), lines: self.lines.as_ref() }
+    }
+
     /// The tree.
     pub const fn tree(&self) -> &Tree<T> {
         &self.tree
@@ -98,6 +103,14 @@ impl<T: AsRef<[u32]>> Reading<T> {
     }
 }
 
+impl<T: AsRef<[u32]>> fmt::Debug for Reading<T> {
+    fn fmt(&self, f: &mut fmt::Formatter<'_>) -> fmt::Result {
+        let mut reading = f.debug_struct("Reading");
+        reading.field("entries", &self.entries()).field("errors", &self.errors());
+        reading.field("lines", &self.line_starts()).finish()
+    }
+}
+
 /// How many entries, errors and lines a reading has.
 struct Counts {
     entries: usize,
@@ -125,15 +138,16 @@ fn fill(src: &[u8], entries: &mut [u32], errors: &mut [u32], lines: &mut [u32]) 
 
 /// Reads a source into tables of its own.
 ///
-/// The tables begin with a guess that nearly always suffices; where one does not, the source is read again with a
-/// longer one. Refusals: [`Length`](Refusal::Length), [`Utf8`](Refusal::Utf8), [`Concats`](Refusal::Concats).
+/// The tables begin with a guess that nearly always suffices, some 10 bytes for each byte of the source; where one does
+/// not, the source is read again with a longer one. What is not used is given back. Refusals:
+/// [`Length`](Refusal::Length), [`Utf8`](Refusal::Utf8), [`Concats`](Refusal::Concats).
 pub fn read(src: &[u8]) -> Result<Reading, Refusal> {
     let mut tables = Tables::new();
     let counts = tables.fill(src)?;
     Ok(Reading {
-        tree: Tree::new(tables.entries.trimmed(counts.entries).into_boxed_slice()),
-        errors: tables.errors.trimmed(counts.errors).into_boxed_slice(),
-        lines: tables.lines.trimmed(counts.lines).into_boxed_slice(),
+        tree: Tree::new(tables.entries.trimmed(counts.entries)),
+        errors: tables.errors.trimmed(counts.errors),
+        lines: tables.lines.trimmed(counts.lines),
     })
 }
 
@@ -174,11 +188,17 @@ pub fn read_with<'t>(
 ///     assert_eq!(view.root().end as usize, src.len());
 /// }
 /// ```
-#[derive(Debug, Clone)]
+#[derive(Clone)]
 pub struct Tables {
     entries: Table,
     errors: Table,
     lines: Table,
+}
+
+impl fmt::Debug for Tables {
+    fn fmt(&self, f: &mut fmt::Formatter<'_>) -> fmt::Result {
+        f.debug_struct("Tables").finish_non_exhaustive()
+    }
 }
 
 impl Default for Tables {
@@ -208,15 +228,14 @@ impl Tables {
     }
 
     fn fill(&mut self, src: &[u8]) -> Result<Counts, Refusal> {
-        let bytes = src.len();
-        self.entries.begin(bytes);
-        self.errors.begin(bytes);
-        self.lines.begin(bytes);
+        self.entries.begin(src.len());
+        self.errors.begin(src.len());
+        self.lines.begin(src.len());
         loop {
             match fill(src, self.entries.lent(), self.errors.lent(), self.lines.lent()) {
-                Err(Refusal::Entries) if self.entries.grow(bytes) => {}
-                Err(Refusal::Errors) if self.errors.grow(bytes) => {}
-                Err(Refusal::Lines) if self.lines.grow(bytes) => {}
+                Err(Refusal::Entries) if self.entries.grow() => {}
+                Err(Refusal::Errors) if self.errors.grow() => {}
+                Err(Refusal::Lines) if self.lines.grow() => {}
                 answer => return answer,
             }
         }
@@ -238,5 +257,5 @@ pub fn define_body(src: &[u8]) -> Result<Tree, Refusal> {
         let answer = unsafe { ffi::shader_define_body(src.as_ptr(), src.len(), entries.as_mut_ptr(), entries.len()) };
         Refusal::check(answer.refusal).map(|()| answer.count as usize)
     })?;
-    Ok(Tree::new(numbers.into_boxed_slice()))
+    Ok(Tree::new(numbers))
 }

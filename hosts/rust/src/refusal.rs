@@ -2,6 +2,8 @@
 use std::error;
 use std::fmt;
 
+use crate::{CONCAT_LIMIT, SOURCE_LIMIT};
+
 /// Why a call was refused. A refused call answers nothing else.
 ///
 /// [`read`](crate::read) gives [`Length`](Refusal::Length), [`Utf8`](Refusal::Utf8) and [`Concats`](Refusal::Concats)
@@ -69,28 +71,24 @@ impl Refusal {
             _ => Err(Refusal::from_number(number).unwrap_or_else(|| crate::other_library("refusal", number))),
         }
     }
-
-    /// What is wrong, and what helps.
-    const fn words(self) -> &'static str {
-        match self {
-            Refusal::Length => "the source is longer than 16777216 bytes: read it in parts",
-            Refusal::Utf8 => "the source is not UTF-8: convert it to UTF-8",
-            Refusal::Concats => "a body holds more than 256 ##: split the directive",
-            Refusal::Entries => "the entry or token table is too short: lend a longer one",
-            Refusal::Errors => "the error table is too short: lend a longer one",
-            Refusal::Lines => "the line table is too short: lend a longer one",
-            Refusal::Lookup => {
-                "the line table does not start at 0 or does not rise: use one that a call filled, without unused zeros"
-            }
-            Refusal::Output => "the output is too short: lend as many bytes as the text has",
-            Refusal::Kind => "a pasted kind is none that a leaf or node has: use 1 to 86 without 35",
-        }
-    }
 }
 
+/// What is wrong, and what helps.
 impl fmt::Display for Refusal {
     fn fmt(&self, f: &mut fmt::Formatter<'_>) -> fmt::Result {
-        f.write_str(self.words())
+        match self {
+            Refusal::Length => write!(f, "the source is longer than {SOURCE_LIMIT} bytes: split it"),
+            Refusal::Utf8 => write!(f, "the source is not UTF-8: convert it to UTF-8"),
+            Refusal::Concats => write!(f, "a body holds more than {CONCAT_LIMIT} ##: split it"),
+            Refusal::Entries => write!(f, "the entry or token table is too short: lend a longer one"),
+            Refusal::Errors => write!(f, "the error table is too short: lend a longer one"),
+            Refusal::Lines => write!(f, "the line table is too short: lend a longer one"),
+            Refusal::Lookup => {
+                write!(f, "the line table does not start at 0 or does not rise: lend one that a call filled")
+            }
+            Refusal::Output => write!(f, "the output is too short: lend as many bytes as the text has"),
+            Refusal::Kind => write!(f, "a kind to paste is LINECONT or none at all: lend the kinds of two leaves"),
+        }
     }
 }
 

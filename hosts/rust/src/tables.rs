@@ -1,76 +1,71 @@
-//! Tables that are long enough: a guess that nearly always suffices, and longer ones up to a bound that always does.
+//! Tables that are long enough: a guess that nearly always suffices, then longer ones up to a bound that always does.
+use crate::error::Error;
 use crate::refusal::Refusal;
 use crate::rows::Row;
 use crate::token::Token;
 use crate::tree::Entry;
-use crate::{Error, SOURCE_LIMIT};
+use crate::SOURCE_LIMIT;
 
-/// How long a table of a source of n bytes is made.
-#[derive(Debug, Clone, Copy)]
+/// How many rows a table is lent for a source of n bytes.
+#[derive(Clone, Copy)]
 pub(crate) struct Size {
     /// The numbers of a row.
     row: usize,
-    /// The first guess is a row for so many bytes, and a few more; where it is 0, just the few.
-    bytes_a_row: usize,
-    /// So many rows for a byte, and some more, always suffice, which is proved.
-    rows_a_byte: usize,
-    more: usize,
+    /// Rows that nearly always suffice: of 4,835 shaders of glslang's and SPIRV-Cross's tests, 46 needed more entries,
+    /// one more lines and none more errors.
+    guess: fn(usize) -> usize,
+    /// How many times as many are lent after a refusal.
+    growth: usize,
+    /// Rows that always suffice, which is proved.
+    bound: fn(usize) -> usize,
 }
 
-pub(crate) const ENTRIES: Size = Size { row: Entry::NUMBERS, bytes_a_row: 2, rows_a_byte: 8, more: 1 };
-pub(crate) const ERRORS: Size = Size { row: Error::NUMBERS, bytes_a_row: 0, rows_a_byte: 8, more: 0 };
-pub(crate) const LINES: Size = Size { row: 1, bytes_a_row: 16, rows_a_byte: 1, more: 1 };
-pub(crate) const TOKENS: Size = Size { row: Token::NUMBERS, bytes_a_row: 2, rows_a_byte: 1, more: 0 };
+pub(crate) const ENTRIES: Size = Size { row: Entry::NUMBERS, guess: |n| n / 2 + 64, growth: 2, bound: |n| 8 * n + 1 };
+pub(crate) const ERRORS: Size = Size { row: Error::NUMBERS, guess: |n| n / 256 + 16, growth: 8, bound: |n| 8 * n };
+pub(crate) const LINES: Size = Size { row: 1, guess: |n| n / 16 + 64, growth: 16, bound: |n| n + 1 };
+pub(crate) const TOKENS: Size = Size { row: Token::NUMBERS, guess: |n| n / 2 + 64, growth: 2, bound: |n| n };
 
-impl Size {
-    /// Rows that always suffice. A source above the limit is refused whatever it is lent.
-    fn bound(self, bytes: usize) -> usize {
-        let bytes = if bytes > SOURCE_LIMIT { 0 } else { bytes };
-        self.rows_a_byte * bytes + self.more
-    }
-
-    /// Rows that nearly always suffice.
-    fn guess(self, bytes: usize) -> usize {
-        let rows = bytes.checked_div(self.bytes_a_row).unwrap_or(0) + 16;
-        rows.min(self.bound(bytes))
-    }
-
-    /// More rows than these, if there can be more.
-    fn longer(self, rows: usize, bytes: usize) -> Option<usize> {
-        let bound = self.bound(bytes);
-        (rows < bound).then(|| (2 * rows).max(bytes / 16).min(bound))
+/// The bytes that tables are made for: a source above the limit is refused whatever it is lent.
+fn counted(bytes: usize) -> usize {
+    if bytes > SOURCE_LIMIT {
+        0
+    } else {
+        bytes
     }
 }
 
 /// A table for sources of any length, kept from one to the next.
-#[derive(Debug, Clone)]
+#[derive(Clone)]
 pub(crate) struct Table {
     size: Size,
     rows: usize,
+    bound: usize,
     numbers: Vec<u32>,
 }
 
 impl Table {
     pub(crate) const fn new(size: Size) -> Table {
-        Table { size, rows: 0, numbers: Vec::new() }
+        Table { size, rows: 0, bound: 0, numbers: Vec::new() }
     }
 
-    /// Begins with a guess.
+    /// Begins a source of so many bytes with the guess.
     pub(crate) fn begin(&mut self, bytes: usize) {
-        self.rows = self.size.guess(bytes);
+        self.bound = (self.size.bound)(counted(bytes));
+        self.rows = (self.size.guess)(counted(bytes)).min(self.bound);
     }
 
-    /// Goes on with more rows, unless there were enough already.
-    pub(crate) fn grow(&mut self, bytes: usize) -> bool {
-        let longer = self.size.longer(self.rows, bytes);
-        self.rows = longer.unwrap_or(self.rows);
-        longer.is_some()
+    /// Goes on with more rows, unless they were as many as can be asked for.
+    pub(crate) fn grow(&mut self) -> bool {
+        let before = self.rows;
+        self.rows = (before * self.size.growth).min(self.bound);
+        self.rows > before
     }
 
-    /// What is lent: so many rows, and no more, since a call clears all that it is lent.
+    /// What is lent: these rows and no more, since a call clears all that it is lent.
     pub(crate) fn lent(&mut self) -> &mut [u32] {
         let count = self.rows * self.size.row;
         if self.numbers.len() < count {
+            // The shorter one goes first, so that the two are never held at once.
             self.numbers = Vec::new();
             self.numbers = vec![0; count];
         }
@@ -82,27 +77,79 @@ impl Table {
         &self.numbers[..rows * self.size.row]
     }
 
-    /// The numbers of the first rows alone.
-    pub(crate) fn trimmed(mut self, rows: usize) -> Vec<u32> {
+    /// The numbers of the first rows, and room for no more.
+    pub(crate) fn trimmed(mut self, rows: usize) -> Box<[u32]> {
         self.numbers.truncate(rows * self.size.row);
-        self.numbers.shrink_to_fit();
-        self.numbers
+        self.numbers.into_boxed_slice()
     }
 }
 
-/// The numbers that a call puts in one table, which answers with the count of its rows.
+/// The numbers that a call puts in its one table; it answers how many rows they are.
 pub(crate) fn grown(
     bytes: usize,
     size: Size,
     mut call: impl FnMut(&mut [u32]) -> Result<usize, Refusal>,
-) -> Result<Vec<u32>, Refusal> {
+) -> Result<Box<[u32]>, Refusal> {
     let mut table = Table::new(size);
     table.begin(bytes);
     loop {
         match call(table.lent()) {
             Ok(rows) => return Ok(table.trimmed(rows)),
-            Err(Refusal::Entries | Refusal::Lines) if table.grow(bytes) => {}
+            Err(Refusal::Entries | Refusal::Lines) if table.grow() => {}
             Err(refusal) => return Err(refusal),
         }
+    }
+}
+
+/// A byte output that is long enough for a text of so many bytes.
+pub(crate) fn output(bytes: usize) -> Vec<u8> {
+    vec![0; counted(bytes)]
+}
+
+#[cfg(test)]
+mod tests {
+    use super::*;
+
+    /// The rows that are lent one after another, if each is refused.
+    fn lent(size: Size, bytes: usize) -> Vec<usize> {
+        let mut table = Table::new(size);
+        table.begin(bytes);
+        let mut rows = vec![table.rows];
+        while table.grow() {
+            rows.push(table.rows);
+        }
+        rows
+    }
+
+    #[test]
+    fn tables_grow_to_the_proved_bound() {
+        assert_eq!(lent(ENTRIES, 300), [214, 428, 856, 1712, 2401]);
+        assert_eq!(lent(ERRORS, 300), [17, 136, 1088, 2400]);
+        assert_eq!(lent(LINES, 300), [82, 301]);
+        assert_eq!(lent(TOKENS, 300), [214, 300]);
+        for bytes in (0..3000).chain([SOURCE_LIMIT - 1, SOURCE_LIMIT]) {
+            assert_eq!(lent(ENTRIES, bytes).last(), Some(&(8 * bytes + 1)));
+            assert_eq!(lent(ERRORS, bytes).last(), Some(&(8 * bytes)));
+            assert_eq!(lent(LINES, bytes).last(), Some(&(bytes + 1)));
+            assert_eq!(lent(TOKENS, bytes).last(), Some(&bytes));
+        }
+    }
+
+    #[test]
+    fn a_source_above_the_limit_is_lent_next_to_nothing() {
+        assert_eq!(lent(ENTRIES, SOURCE_LIMIT + 1), [1]);
+        assert_eq!(lent(ERRORS, usize::MAX), [0]);
+        assert_eq!(output(SOURCE_LIMIT + 1), b"");
+    }
+
+    #[test]
+    fn a_table_is_kept_and_lent_no_longer_than_needed() {
+        let mut table = Table::new(LINES);
+        table.begin(16_000);
+        assert_eq!(table.lent().len(), 1064);
+        table.begin(16);
+        assert_eq!(table.lent().len(), 17);
+        assert_eq!(table.numbers.len(), 1064);
+        assert_eq!(table.trimmed(3).len(), 3);
     }
 }

@@ -52,7 +52,8 @@ impl Row for Token {
     }
 }
 
-/// The tokens of a source, without a tree; angle strings are never expected.
+/// The tokens of a source, without a tree; angle strings are never expected. Refusals: [`Length`](Refusal::Length),
+/// [`Utf8`](Refusal::Utf8).
 ///
 /// ```
 /// use shader_reader::{tokens, SyntaxKind};
@@ -72,15 +73,14 @@ pub fn tokens(src: &[u8]) -> Result<Vec<Token>, Refusal> {
     Ok(Rows::new(&numbers).collect())
 }
 
-/// A text without its continuations: each backslash with the one newline after it is dropped.
+/// A text without its continuations: each backslash with the one newline after it is dropped. Refusals:
+/// [`Length`](Refusal::Length), [`Utf8`](Refusal::Utf8).
 ///
 /// ```
 /// assert_eq!(shader_reader::unescape(b"def\\\nine").unwrap(), b"define");
 /// ```
 pub fn unescape(text: &[u8]) -> Result<Vec<u8>, Refusal> {
-    // A text above the limit is refused whatever it is lent.
-    let room = if text.len() > crate::SOURCE_LIMIT { 0 } else { text.len() };
-    let mut output = vec![0; room];
+    let mut output = tables::output(text.len());
     // SAFETY: the slices' pointers are valid for their lengths, and the output is a table of its own.
     let answer = unsafe { ffi::shader_unescape(text.as_ptr(), text.len(), output.as_mut_ptr(), output.len()) };
     Refusal::check(answer.refusal)?;
@@ -89,7 +89,7 @@ pub fn unescape(text: &[u8]) -> Result<Vec<u8>, Refusal> {
 }
 
 /// The kind of two leaves pasted by `##`; ERROR where they make no token. LINECONT, which no leaf has, is refused
-/// ([`Refusal::Kind`]).
+/// ([`Kind`](Refusal::Kind)).
 ///
 /// ```
 /// use shader_reader::{paste, Refusal, SyntaxKind};

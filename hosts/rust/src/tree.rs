@@ -1,4 +1,6 @@
 //! The tree: entries, and a cursor over them.
+use std::fmt;
+use std::iter::FusedIterator;
 use std::ops::{Deref, Range};
 
 use crate::kind::SyntaxKind;
@@ -78,7 +80,7 @@ impl Row for Entry {
 pub type Entries<'a> = Rows<'a, Entry>;
 
 /// A tree: its entries, parent before children, left to right. It owns its table or borrows it.
-#[derive(Debug, Clone, PartialEq, Eq)]
+#[derive(Clone, Copy, PartialEq, Eq, Hash)]
 pub struct Tree<T = Box<[u32]>> {
     entries: T,
 }
@@ -91,6 +93,11 @@ impl<T: AsRef<[u32]>> Tree<T> {
 
     fn table(&self) -> &[u32] {
         self.entries.as_ref()
+    }
+
+    /// The same tree, borrowed.
+    pub fn view(&self) -> Tree<&[u32]> {
+        Tree::new(self.table())
     }
 
     /// All entries.
@@ -114,8 +121,14 @@ impl<T: AsRef<[u32]>> Tree<T> {
     }
 }
 
+impl<T: AsRef<[u32]>> fmt::Debug for Tree<T> {
+    fn fmt(&self, f: &mut fmt::Formatter<'_>) -> fmt::Result {
+        self.entries().fmt(f)
+    }
+}
+
 /// An entry at its place in a tree: a cursor. Its fields and methods are those of [`Entry`], and it knows its children.
-#[derive(Debug, Clone, Copy)]
+#[derive(Clone, Copy)]
 pub struct Node<'a> {
     table: &'a [u32],
     place: usize,
@@ -130,14 +143,16 @@ impl Deref for Node<'_> {
     }
 }
 
-/// The entry at a place of the table.
-fn entry_at(table: &[u32], place: usize) -> Entry {
-    Entry::from_numbers(&table[place * Entry::NUMBERS..(place + 1) * Entry::NUMBERS])
+impl fmt::Debug for Node<'_> {
+    fn fmt(&self, f: &mut fmt::Formatter<'_>) -> fmt::Result {
+        f.debug_tuple("Node").field(&self.entry).finish()
+    }
 }
 
 impl<'a> Node<'a> {
     fn at(table: &'a [u32], place: usize) -> Self {
-        Node { table, place, entry: entry_at(table, place) }
+        let entry = Entry::from_numbers(&table[place * Entry::NUMBERS..][..Entry::NUMBERS]);
+        Node { table, place, entry }
     }
 
     /// The entry.
@@ -147,8 +162,8 @@ impl<'a> Node<'a> {
 
     /// Its children, left to right; a leaf has none.
     ///
-    /// A step over a child takes the logarithm of how many entries lie below that child, so that going over a whole
-    /// tree by its children takes about as many steps as there are entries, however deep it is.
+    /// A step over a child takes time by the logarithm of how many entries lie below that child, and memory none. So a
+    /// tree of n entries is walked whole in about n steps, however deep it is.
     pub fn children(&self) -> Children<'a> {
         Children { table: self.table, next: self.place + 1, level: self.entry.level + 1 }
     }
@@ -160,33 +175,47 @@ impl<'a> Node<'a> {
 
     /// The place behind the last entry below this one.
     ///
-    /// Starts never fall along the table, and what lies below starts before the end, but for empty nodes at the end.
+    /// Starts never fall along a table. What lies below starts before this one's end, or is an empty node at that end,
+    /// of which a directive has two at most.
     fn behind(&self) -> usize {
         let count = self.table.len() / Entry::NUMBERS;
-        let mut step = 1;
-        let mut low = self.place + 1;
-        while low + step < count && self.table[(low + step) * Entry::NUMBERS + 3] < self.entry.end {
-            low += step;
-            step *= 2;
+        let below = |place: usize| self.table[place * Entry::NUMBERS + START] < self.entry.end;
+        let mut place = first_not(self.place + 1, count, below);
+        while place < count && self.table[place * Entry::NUMBERS + LEVEL] > self.entry.level {
+            place += 1;
         }
-        let mut high = count.min(low + step);
-        while low < high {
-            let middle = low + (high - low) / 2;
-            if self.table[middle * Entry::NUMBERS + 3] < self.entry.end {
-                low = middle + 1;
-            } else {
-                high = middle;
-            }
-        }
-        while low < count && self.table[low * Entry::NUMBERS + 2] > self.entry.level {
-            low += 1;
-        }
-        low
+        place
     }
 }
 
+/// Where level and start stand among the numbers of an entry.
+const LEVEL: usize = 2;
+const START: usize = 3;
+
+/// The first place from `low` on, or `count`, that is not so; all before it are, and none behind. Steps that double
+/// pass it, and a binary search goes back to it.
+fn first_not(mut low: usize, count: usize, so: impl Fn(usize) -> bool) -> usize {
+    let mut step = 1;
+    let mut high = low;
+    while high < count && so(high) {
+        low = high + 1;
+        high += step;
+        step *= 2;
+    }
+    high = high.min(count);
+    while low < high {
+        let middle = low + (high - low) / 2;
+        if so(middle) {
+            low = middle + 1;
+        } else {
+            high = middle;
+        }
+    }
+    low
+}
+
 /// An iterator over the children of a [`Node`].
-#[derive(Debug, Clone)]
+#[derive(Clone)]
 pub struct Children<'a> {
     table: &'a [u32],
     next: usize,
@@ -206,5 +235,29 @@ impl<'a> Iterator for Children<'a> {
         }
         self.next = child.behind();
         Some(child)
+    }
+}
+
+impl FusedIterator for Children<'_> {}
+
+impl fmt::Debug for Children<'_> {
+    fn fmt(&self, f: &mut fmt::Formatter<'_>) -> fmt::Result {
+        f.debug_list().entries(self.clone()).finish()
+    }
+}
+
+#[cfg(test)]
+mod tests {
+    use super::first_not;
+
+    #[test]
+    fn the_first_place_is_found_from_anywhere() {
+        for count in 0..40 {
+            for low in 0..=count {
+                for first in low..=count {
+                    assert_eq!(first_not(low, count, |place| place < first), first);
+                }
+            }
+        }
     }
 }
