@@ -7,10 +7,12 @@ use shader_reader::{Error, Place};
 
 use crate::excerpt::excerpt;
 use crate::paint::{Paint, Style};
-use crate::text::{pieces, width, Piece};
+use crate::text::{pieces, Piece};
 
 /// A sentence is cut behind so many columns: a directive's name may be as long as the source.
 const SENTENCE: usize = 200;
+/// Columns for the number of a line.
+const GUTTER: usize = 5;
 
 #[derive(Debug, Clone, Copy, PartialEq, Eq)]
 pub enum Level {
@@ -59,9 +61,8 @@ fn one_line(sentence: &str) -> String {
             out.push_str("...");
             break;
         }
-        let from = out.len();
         piece.show(&mut out);
-        columns += out[from..].chars().map(width).sum::<usize>();
+        columns += piece.columns();
     }
     out
 }
@@ -87,40 +88,52 @@ impl Origin<'_> {
     }
 
     pub fn write(&self, message: &Message, paint: Paint, out: &mut dyn Write) -> io::Result<()> {
-        let word = format!("{}:", message.level.word());
-        let word = paint.paint(message.level.style(), word);
-        match &message.range {
-            Some(range) => {
-                let Place { line, column } = self.place(range.start);
-                let place = format!("{}:{}:{}:", self.name, line + 1, column + 1);
-                writeln!(out, "{} {word} {}", paint.paint(Style::Place, place), message.sentence)?;
-                self.write_excerpt(message.level, range, paint, out)?;
-            }
-            None => {
-                let place = format!("{}:", self.name);
-                writeln!(out, "{} {word} {}", paint.paint(Style::Place, place), message.sentence)?;
-            }
+        let word = paint.paint(message.level.style(), format!("{}:", message.level.word()));
+        let place = match message.range.as_ref().map(|range| self.place(range.start)) {
+            Some(Place { line, column }) => format!("{}:{}:{}:", self.name, line + 1, column + 1),
+            None => format!("{}:", self.name),
+        };
+        writeln!(out, "{} {word} {}", paint.paint(Style::Place, place), message.sentence)?;
+        let mut gutter = GUTTER;
+        if let Some(range) = &message.range {
+            gutter = gutter.max(digits(self.place(range.start).line + 1));
+            self.write_excerpt(message.level, range, gutter, paint, out)?;
         }
-        match &message.help {
-            Some(help) => writeln!(out, "      {} help: {help}", paint.paint(Style::Gutter, "=")),
-            None => Ok(()),
+        if let Some(help) = &message.help {
+            write_below("help", help, gutter, paint, out)?;
         }
+        Ok(())
     }
 
-    fn write_excerpt(&self, level: Level, range: &Range<usize>, paint: Paint, out: &mut dyn Write) -> io::Result<()> {
+    fn write_excerpt(
+        &self,
+        level: Level,
+        range: &Range<usize>,
+        gutter: usize,
+        paint: Paint,
+        out: &mut dyn Write,
+    ) -> io::Result<()> {
         let line = self.place(range.start).line;
         let shown = excerpt(self.bytes, self.lines[line as usize] as usize, range.clone());
-        let number = paint.paint(Style::Gutter, format!("{:5} |", line + 1));
+        let number = paint.paint(Style::Gutter, format!("{:gutter$} |", line + 1));
         writeln!(out, "{}", format!("{number} {}", shown.text).trim_end())?;
-        let gutter = paint.paint(Style::Gutter, "      |");
+        let bar = paint.paint(Style::Gutter, format!("{:gutter$} |", ""));
         let mark = paint.paint(level.style(), "^".repeat(shown.width));
-        writeln!(out, "{gutter} {:blanks$}{mark}", "", blanks = shown.column)?;
-        match self.last_line(range) {
-            Some(Place { line, column }) => {
-                let sign = paint.paint(Style::Gutter, "=");
-                writeln!(out, "      {sign} note: up to line {}, column {}", line + 1, column + 1)
-            }
-            None => Ok(()),
+        writeln!(out, "{bar} {:blanks$}{mark}", "", blanks = shown.column)?;
+        if let Some(Place { line, column }) = self.last_line(range) {
+            let words = format!("up to line {}, column {}", line + 1, column + 1);
+            write_below("note", &words, gutter, paint, out)?;
         }
+        Ok(())
     }
+}
+
+/// Words below an excerpt.
+fn write_below(sort: &str, words: &str, gutter: usize, paint: Paint, out: &mut dyn Write) -> io::Result<()> {
+    let sign = paint.paint(Style::Gutter, format!("{:gutter$} =", ""));
+    writeln!(out, "{sign} {sort}: {words}")
+}
+
+fn digits(number: u32) -> usize {
+    number.to_string().len()
 }

@@ -2,7 +2,7 @@
 
 use std::ops::Range;
 
-use crate::text::{width, Piece};
+use crate::text::{pieces, Piece};
 
 /// A line is shown up to so many columns; a longer one is cut around the mark.
 const COLUMNS: usize = 100;
@@ -22,21 +22,21 @@ pub struct Layout {
 
 impl Layout {
     pub fn push(&mut self, piece: Piece) {
-        let from = self.text.len();
+        let columns = match piece {
+            Piece::Char('\t') => TAB - self.columns % TAB,
+            _ => piece.columns(),
+        };
         match piece {
-            Piece::Char('\t') => {
-                let blanks = TAB - self.columns % TAB;
-                self.text.extend(std::iter::repeat_n(' ', blanks));
-            }
+            Piece::Char('\t') => self.text.extend(std::iter::repeat_n(' ', columns)),
             _ => piece.show(&mut self.text),
         }
-        self.columns += self.text[from..].chars().map(width).sum::<usize>();
+        self.columns += columns;
     }
 
     /// The layout of some bytes of one line.
     pub fn of(bytes: &[u8]) -> Layout {
         let mut layout = Layout::default();
-        crate::text::pieces(bytes).for_each(|piece| layout.push(piece));
+        pieces(bytes).for_each(|piece| layout.push(piece));
         layout
     }
 }
@@ -100,7 +100,7 @@ fn back(bytes: &[u8], line: usize, mut at: usize, mut columns: usize) -> usize {
     // Characters without width end too.
     for _ in 0..4 * COLUMNS {
         let Some(piece) = Piece::last(&bytes[line..at]) else { break };
-        let wide = Layout::of(&bytes[at - piece.bytes()..at]).columns;
+        let wide = if piece == Piece::Char('\t') { TAB } else { piece.columns() };
         if wide > columns {
             break;
         }

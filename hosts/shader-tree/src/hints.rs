@@ -97,18 +97,12 @@ fn single_byte_help(byte: u8) -> String {
 
 /// The shortest beginning that is refused ends with the ## that is one too many.
 fn too_many_concats(bytes: &[u8], tables: &mut Tables) -> Message {
-    let (mut kept, mut refused) = (0, bytes.len());
-    while refused - kept > 1 {
-        let middle = kept + (refused - kept) / 2;
-        let whole = middle - std::str::from_utf8(&bytes[..middle]).map_or_else(|e| middle - e.valid_up_to(), |_| 0);
-        match tables.read(&bytes[..whole]) {
-            Err(Refusal::Concats) => refused = whole,
-            _ => kept = middle,
-        }
-    }
+    let ends: Vec<usize> = (2..=bytes.len()).filter(|&end| bytes[end - 2..end] == *b"##").collect();
+    let beyond = ends.get(CONCAT_LIMIT..).unwrap_or_default();
+    let kept = beyond.partition_point(|&end| !matches!(tables.read(&bytes[..end]), Err(Refusal::Concats)));
     let sentence = format!("a body with more than {CONCAT_LIMIT} ##: this is one too many");
     let help = "split the body into several macros".into();
-    Message { range: Some(refused.saturating_sub(2)..refused), ..error(sentence, Some(help)) }
+    Message { range: beyond.get(kept).map(|&end| end - 2..end), ..error(sentence, Some(help)) }
 }
 
 /// A note about the first ERROR leaf that no error covers: the reader counts no error there.

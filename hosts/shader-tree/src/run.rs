@@ -91,7 +91,7 @@ impl Run {
         let mut tables = std::mem::take(&mut self.tables);
         let status = match tables.read(&source.bytes) {
             Ok(reading) => self.reading(number, name, &source.bytes, reading),
-            Err(refusal) => self.refused(number, name, &source, refusal, &mut Tables::new()),
+            Err(refusal) => self.refused(number, name, &source, refusal, &mut tables),
         };
         self.tables = tables;
         status

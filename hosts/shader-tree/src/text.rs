@@ -13,6 +13,9 @@ pub enum Piece {
 impl Piece {
     /// The first piece of some bytes.
     pub fn first(bytes: &[u8]) -> Option<Piece> {
+        if let Some(&byte) = bytes.first().filter(|byte| byte.is_ascii()) {
+            return Some(Piece::Char(byte.into()));
+        }
         let head = &bytes[..bytes.len().min(4)];
         let valid = match std::str::from_utf8(head) {
             Ok(text) => text,
@@ -23,6 +26,9 @@ impl Piece {
 
     /// The last piece of some bytes.
     pub fn last(bytes: &[u8]) -> Option<Piece> {
+        if let Some(&byte) = bytes.last().filter(|byte| byte.is_ascii()) {
+            return Some(Piece::Char(byte.into()));
+        }
         let tail = &bytes[bytes.len().saturating_sub(4)..];
         let whole = (0..tail.len()).find_map(|from| std::str::from_utf8(&tail[from..]).ok());
         let last = whole.and_then(|text| text.chars().next_back());
@@ -42,6 +48,18 @@ impl Piece {
         match self {
             Piece::Char(char) => is_hidden(char),
             Piece::Byte(_) => true,
+        }
+    }
+
+    /// How many columns it takes as it is shown.
+    pub fn columns(self) -> usize {
+        match self {
+            Piece::Char(char) if !is_hidden(char) => width(char),
+            _ => {
+                let mut escape = String::new();
+                self.escape(&mut escape);
+                escape.len()
+            }
         }
     }
 
@@ -117,10 +135,13 @@ pub fn grouped(number: u64) -> String {
 /// Controls, formats that turn or hide text, line separators, and what is no character.
 fn is_hidden(char: char) -> bool {
     let code = char as u32;
+    if code < 0x80 {
+        return char.is_ascii_control();
+    }
     char.is_control() || code & 0xfffe == 0xfffe || in_ranges(&HIDDEN, code)
 }
 
-/// How many columns a character takes on a terminal; a tab takes those up to its stop.
+/// How many columns a character takes on a terminal.
 pub fn width(char: char) -> usize {
     let code = char as u32;
     if code < 0x300 {
