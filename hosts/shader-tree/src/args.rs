@@ -132,3 +132,66 @@ impl Given {
         Options { mode, color: self.color.unwrap_or(Color::Auto), files }
     }
 }
+
+#[cfg(test)]
+mod tests {
+    use super::*;
+
+    fn parsed(args: &[&str]) -> Result<Command, String> {
+        parse(args.iter().map(OsString::from))
+    }
+
+    fn options(args: &[&str]) -> Options {
+        match parsed(args) {
+            Ok(Command::Run(options)) => options,
+            other => panic!("{other:?}"),
+        }
+    }
+
+    fn path(name: &str) -> File {
+        File::Path(name.into())
+    }
+
+    #[test]
+    fn nothing_given() {
+        assert_eq!(options(&[]), Options { mode: Mode::Tree, color: Color::Auto, files: vec![File::Stdin] });
+    }
+
+    #[test]
+    fn modes_and_colors() {
+        for (name, mode) in MODES {
+            assert_eq!(options(&[name, "a"]).mode, mode);
+            assert_eq!(options(&["a", name, name]).mode, mode);
+        }
+        assert_eq!(options(&["--color=always"]).color, Color::Always);
+        assert_eq!(options(&["--color=always", "--color=never"]).color, Color::Never);
+    }
+
+    #[test]
+    fn files() {
+        assert_eq!(
+            options(&["a", "-", "--", "--html", "--"]).files,
+            [path("a"), File::Stdin, path("--html"), path("--")]
+        );
+        assert_eq!(options(&["--"]).files, [File::Stdin]);
+    }
+
+    #[test]
+    fn help_and_version_come_first() {
+        assert_eq!(parsed(&["--html", "-h", "--nonsense"]), Ok(Command::Help));
+        assert_eq!(parsed(&["--version"]), Ok(Command::Version));
+        assert_eq!(parsed(&["-V"]), Ok(Command::Version));
+    }
+
+    #[test]
+    fn wrong_usage() {
+        let words = |args: &[&str]| parsed(args).unwrap_err();
+        assert_eq!(words(&["--html", "--tree"]), "--html and --tree can't be given together");
+        assert_eq!(words(&["--treee"]), "there is no option '--treee' (a file of that name: ./--treee)");
+        assert_eq!(words(&["-x\n"]), "there is no option '-x\\n' (a file of that name: ./-x\\n)");
+        assert_eq!(words(&["--color=blue"]), "'blue' is no value of --color: it takes always, never or auto");
+        assert!(words(&["--color"]).starts_with("--color needs a value"));
+        assert!(words(&["--colors"]).starts_with("there is no option '--colors'"));
+        assert_eq!(words(&["-", "a", "-"]), "'-' is given twice: standard input can be read only once");
+    }
+}

@@ -109,3 +109,82 @@ fn back(bytes: &[u8], line: usize, mut at: usize, mut columns: usize) -> usize {
     }
     at
 }
+
+#[cfg(test)]
+mod tests {
+    use super::*;
+
+    /// The line and its mark, one above the other.
+    fn drawn(bytes: &[u8], line: usize, range: Range<usize>) -> String {
+        let Excerpt { text, column, width } = excerpt(bytes, line, range);
+        format!("{text}\n{}{}", " ".repeat(column), "^".repeat(width))
+    }
+
+    #[test]
+    fn a_plain_line() {
+        assert_eq!(drawn(b"#undef\nfoo\n", 7, 7..10), "foo\n^^^");
+        assert_eq!(drawn(b"#undef\nfoo\n", 0, 6..7), "#undef\n      ^");
+    }
+
+    #[test]
+    fn the_end_of_the_source() {
+        assert_eq!(drawn(b"#undef", 0, 6..6), "#undef\n      ^");
+        assert_eq!(drawn(b"a\n", 2, 2..2), "\n^");
+        assert_eq!(drawn(b"", 0, 0..0), "\n^");
+    }
+
+    #[test]
+    fn tabs_become_blanks_up_to_their_stop() {
+        assert_eq!(drawn(b"\ta\tbc", 0, 3..5), "        a       bc\n                ^^");
+        assert_eq!(drawn(b"a\tb", 0, 1..3), "a       b\n ^^^^^^^^");
+    }
+
+    #[test]
+    fn wide_and_combining_characters() {
+        assert_eq!(drawn("中e\u{301}x".as_bytes(), 0, 6..7), "中e\u{301}x\n   ^");
+        assert_eq!(drawn("x中".as_bytes(), 0, 1..4), "x中\n ^^");
+    }
+
+    #[test]
+    fn controls_and_stray_bytes_are_escaped() {
+        assert_eq!(drawn(b"a\x1b[1mb", 0, 5..6), "a\\x1b[1mb\n        ^");
+        assert_eq!(drawn(b"caf\xe9!", 0, 3..4), "caf\\xe9!\n   ^^^^");
+    }
+
+    #[test]
+    fn newlines_of_all_sorts_end_the_line() {
+        for newline in ["\n", "\r\n", "\n\r", "\r"] {
+            let text = format!("#else a{newline}b");
+            assert_eq!(drawn(text.as_bytes(), 0, 6..text.len()), "#else a\n      ^");
+        }
+    }
+
+    #[test]
+    fn long_lines_are_cut_around_the_mark() {
+        let text = format!("{}MARK{}", "a".repeat(500), "b".repeat(500));
+        let shown = excerpt(text.as_bytes(), 0, 500..504);
+        assert_eq!(shown.text, format!("...{}MARK{}...", "a".repeat(40), "b".repeat(56)));
+        assert_eq!((shown.column, shown.width), (43, 4));
+    }
+
+    #[test]
+    fn long_marks_are_cut() {
+        let text = "a".repeat(500);
+        let shown = excerpt(text.as_bytes(), 0, 10..500);
+        assert_eq!(shown.text, format!("{}...", "a".repeat(100)));
+        assert_eq!((shown.column, shown.width), (10, 90));
+    }
+
+    #[test]
+    fn a_line_that_fits_is_not_cut() {
+        let text = "a".repeat(100);
+        assert_eq!(excerpt(text.as_bytes(), 0, 99..100), Excerpt { text, column: 99, width: 1 });
+    }
+
+    #[test]
+    fn characters_without_width_end_too() {
+        let text = "\u{301}".repeat(100_000);
+        let shown = excerpt(text.as_bytes(), 0, 100_000..100_002);
+        assert!(shown.text.len() < 2_000);
+    }
+}

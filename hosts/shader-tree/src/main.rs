@@ -17,6 +17,7 @@ mod run;
 mod text;
 mod tokens;
 mod tree;
+mod width;
 
 use args::Command;
 use run::Status;

@@ -3,7 +3,8 @@
 use std::io::{self, Write};
 use std::time::{Duration, Instant};
 
-use crate::text::{width, Piece};
+use crate::text::Piece;
+use crate::width::width;
 
 /// Nothing is shown before so long, nor more often.
 const STEP: Duration = Duration::from_millis(200);

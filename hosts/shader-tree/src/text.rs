@@ -1,7 +1,9 @@
-//! Bytes as they are shown: one character or stray byte after another, what must be escaped, and widths on a terminal.
+//! Bytes as they are shown: one character or stray byte after another, and what must be escaped.
 
 use std::ffi::OsStr;
 use std::fmt::Write;
+
+use crate::width::{in_ranges, width};
 
 /// A character of a source, or a byte that is part of none.
 #[derive(Debug, Clone, Copy, PartialEq, Eq)]
@@ -107,8 +109,11 @@ pub fn quoted(bytes: &[u8]) -> String {
     out
 }
 
-/// The name of a file on one line; a backslash in it is doubled.
+/// The name of a file on one line; a backslash in it is doubled, and no name at all is two quotes.
 pub fn escaped_name(name: &OsStr) -> String {
+    if name.is_empty() {
+        return "''".into();
+    }
     let mut out = String::new();
     for piece in pieces(name.as_encoded_bytes()) {
         if piece == Piece::Char('\\') {
@@ -141,26 +146,7 @@ fn is_hidden(char: char) -> bool {
     char.is_control() || code & 0xfffe == 0xfffe || in_ranges(&HIDDEN, code)
 }
 
-/// How many columns a character takes on a terminal.
-pub fn width(char: char) -> usize {
-    let code = char as u32;
-    if code < 0x300 {
-        1
-    } else if in_ranges(&COMBINING, code) {
-        0
-    } else if in_ranges(&WIDE, code) {
-        2
-    } else {
-        1
-    }
-}
-
-fn in_ranges(ranges: &[(u32, u32)], code: u32) -> bool {
-    let at = ranges.partition_point(|&(_, last)| last < code);
-    ranges.get(at).is_some_and(|&(first, _)| first <= code)
-}
-
-/// Formats and line separators; first to last, rising, like the tables below.
+/// Formats and line separators.
 const HIDDEN: [(u32, u32); 11] = [
     (0x061c, 0x061c),
     (0x180e, 0x180e),
@@ -175,125 +161,62 @@ const HIDDEN: [(u32, u32); 11] = [
     (0xe0000, 0xe007f),
 ];
 
-/// Combining marks of the scripts that are met most; others count as one column.
-const COMBINING: [(u32, u32); 33] = [
-    (0x0300, 0x036f),
-    (0x0483, 0x0489),
-    (0x0591, 0x05bd),
-    (0x05bf, 0x05bf),
-    (0x05c1, 0x05c2),
-    (0x05c4, 0x05c5),
-    (0x05c7, 0x05c7),
-    (0x0610, 0x061a),
-    (0x064b, 0x065f),
-    (0x0670, 0x0670),
-    (0x06d6, 0x06dc),
-    (0x06df, 0x06e4),
-    (0x06e7, 0x06e8),
-    (0x06ea, 0x06ed),
-    (0x0900, 0x0902),
-    (0x093a, 0x093a),
-    (0x093c, 0x093c),
-    (0x0941, 0x0948),
-    (0x094d, 0x094d),
-    (0x0951, 0x0957),
-    (0x0962, 0x0963),
-    (0x0e31, 0x0e31),
-    (0x0e34, 0x0e3a),
-    (0x0e47, 0x0e4e),
-    (0x1160, 0x11ff),
-    (0x1ab0, 0x1ace),
-    (0x1dc0, 0x1dff),
-    (0x20d0, 0x20f0),
-    (0x302a, 0x302d),
-    (0x3099, 0x309a),
-    (0xfe00, 0xfe0f),
-    (0xfe20, 0xfe2f),
-    (0xe0100, 0xe01ef),
-];
+#[cfg(test)]
+mod tests {
+    use std::os::unix::ffi::OsStrExt;
 
-/// East Asian Wide and Fullwidth, unassigned characters between them included.
-const WIDE: [(u32, u32); 82] = [
-    (0x1100, 0x115f),
-    (0x231a, 0x231b),
-    (0x2329, 0x232a),
-    (0x23e9, 0x23ec),
-    (0x23f0, 0x23f0),
-    (0x23f3, 0x23f3),
-    (0x25fd, 0x25fe),
-    (0x2614, 0x2615),
-    (0x2648, 0x2653),
-    (0x267f, 0x267f),
-    (0x2693, 0x2693),
-    (0x26a1, 0x26a1),
-    (0x26aa, 0x26ab),
-    (0x26bd, 0x26be),
-    (0x26c4, 0x26c5),
-    (0x26ce, 0x26ce),
-    (0x26d4, 0x26d4),
-    (0x26ea, 0x26ea),
-    (0x26f2, 0x26f3),
-    (0x26f5, 0x26f5),
-    (0x26fa, 0x26fa),
-    (0x26fd, 0x26fd),
-    (0x2705, 0x2705),
-    (0x270a, 0x270b),
-    (0x2728, 0x2728),
-    (0x274c, 0x274c),
-    (0x274e, 0x274e),
-    (0x2753, 0x2755),
-    (0x2757, 0x2757),
-    (0x2795, 0x2797),
-    (0x27b0, 0x27b0),
-    (0x27bf, 0x27bf),
-    (0x2b1b, 0x2b1c),
-    (0x2b50, 0x2b50),
-    (0x2b55, 0x2b55),
-    (0x2e80, 0x303e),
-    (0x3041, 0x3247),
-    (0x3250, 0x4dbf),
-    (0x4e00, 0xa4cf),
-    (0xa960, 0xa97f),
-    (0xac00, 0xd7a3),
-    (0xf900, 0xfaff),
-    (0xfe10, 0xfe1f),
-    (0xfe30, 0xfe6f),
-    (0xff00, 0xff60),
-    (0xffe0, 0xffe6),
-    (0x16fe0, 0x18cff),
-    (0x1aff0, 0x1b2ff),
-    (0x1f004, 0x1f004),
-    (0x1f0cf, 0x1f0cf),
-    (0x1f18e, 0x1f18e),
-    (0x1f191, 0x1f19a),
-    (0x1f200, 0x1f320),
-    (0x1f32d, 0x1f335),
-    (0x1f337, 0x1f37c),
-    (0x1f37e, 0x1f393),
-    (0x1f3a0, 0x1f3ca),
-    (0x1f3cf, 0x1f3d3),
-    (0x1f3e0, 0x1f3f0),
-    (0x1f3f4, 0x1f3f4),
-    (0x1f3f8, 0x1f43e),
-    (0x1f440, 0x1f440),
-    (0x1f442, 0x1f4fc),
-    (0x1f4ff, 0x1f53d),
-    (0x1f54b, 0x1f54e),
-    (0x1f550, 0x1f567),
-    (0x1f57a, 0x1f57a),
-    (0x1f595, 0x1f596),
-    (0x1f5a4, 0x1f5a4),
-    (0x1f5fb, 0x1f64f),
-    (0x1f680, 0x1f6c5),
-    (0x1f6cc, 0x1f6cc),
-    (0x1f6d0, 0x1f6d2),
-    (0x1f6d5, 0x1f6df),
-    (0x1f6eb, 0x1f6ef),
-    (0x1f6f4, 0x1f6ff),
-    (0x1f7e0, 0x1f7f0),
-    (0x1f90c, 0x1f93a),
-    (0x1f93c, 0x1f945),
-    (0x1f947, 0x1f9ff),
-    (0x1fa70, 0x1faff),
-    (0x20000, 0x3fffd),
-];
+    use super::*;
+
+    #[test]
+    fn pieces_from_both_ends() {
+        let bytes = "aé中\u{1f600}".as_bytes();
+        let mut back = Vec::new();
+        let mut end = bytes.len();
+        while let Some(piece) = Piece::last(&bytes[..end]) {
+            back.push(piece);
+            end -= piece.bytes();
+        }
+        back.reverse();
+        assert_eq!(pieces(bytes).collect::<Vec<_>>(), back);
+        assert_eq!(back, "aé中\u{1f600}".chars().map(Piece::Char).collect::<Vec<_>>());
+    }
+
+    #[test]
+    fn stray_bytes() {
+        let found: Vec<_> = pieces(b"a\xe4\xb8b\xff").collect();
+        let (a, b) = (Piece::Char('a'), Piece::Char('b'));
+        assert_eq!(found, [a, Piece::Byte(0xe4), Piece::Byte(0xb8), b, Piece::Byte(0xff)]);
+        assert_eq!(Piece::last(b"a\xe4\xb8"), Some(Piece::Byte(0xb8)));
+        assert_eq!(Piece::first(b""), None);
+        assert_eq!(Piece::last(b""), None);
+    }
+
+    #[test]
+    fn quotes_and_controls_are_escaped() {
+        assert_eq!(quoted(b"a\"\\\t\r\n\0\x1b\x7f"), r#""a\"\\\t\r\n\x00\x1b\x7f""#);
+        assert_eq!(quoted("é\u{202e}\u{feff}\u{9b}".as_bytes()), r#""é\u{202e}\u{feff}\u{9b}""#);
+        assert_eq!(quoted(b"\xff"), r#""\xff""#);
+    }
+
+    #[test]
+    fn columns_are_those_of_what_is_shown() {
+        for piece in pieces("a中e\u{301}\u{1b}\u{202e}\u{85}".as_bytes()).chain([Piece::Byte(0x80)]) {
+            let mut shown = String::new();
+            piece.show(&mut shown);
+            assert_eq!(piece.columns(), shown.chars().map(width).sum::<usize>(), "{piece:?}");
+        }
+    }
+
+    #[test]
+    fn names_stay_on_one_line() {
+        assert_eq!(escaped_name(OsStr::new("a b/c.frag")), "a b/c.frag");
+        assert_eq!(escaped_name(OsStr::new("a\nb\\c")), "a\\nb\\\\c");
+        assert_eq!(escaped_name(OsStr::from_bytes(b"\xe9.frag")), "\\xe9.frag");
+        assert_eq!(escaped_name(OsStr::new("")), "''");
+    }
+
+    #[test]
+    fn thousands_are_parted() {
+        assert_eq!([0, 999, 1000, 16777216].map(grouped), ["0", "999", "1,000", "16,777,216"]);
+    }
+}
