@@ -149,3 +149,92 @@ fn byte_order_mark(bytes: &[u8]) -> (&'static str, Option<String>) {
         _ => ("a byte order mark is an ERROR leaf", help),
     }
 }
+
+#[cfg(test)]
+mod tests {
+    use super::*;
+
+    fn refused(bytes: &[u8]) -> (Message, Vec<u32>) {
+        let refusal = shader_reader::read(bytes).unwrap_err();
+        let source = Source { bytes: bytes.to_vec(), length: Some(bytes.len() as u64) };
+        of_refusal(refusal, &source, &mut Tables::new())
+    }
+
+    fn help(bytes: &[u8]) -> String {
+        refused(bytes).0.help.unwrap()
+    }
+
+    fn note(bytes: &[u8]) -> Option<Message> {
+        of_error_leaf(bytes, &Tables::new().read(bytes).unwrap())
+    }
+
+    #[test]
+    fn the_first_byte_that_is_not_utf8() {
+        let (message, lines) = refused(b"a\r\nb\xe9c\n");
+        assert_eq!(message.sentence, "not UTF-8: byte 0xE9 at offset 4");
+        assert_eq!(message.range, Some(4..5));
+        assert_eq!(lines, [0, 3]);
+    }
+
+    #[test]
+    fn what_it_looks_like() {
+        assert!(help(b"caf\xe9 au lait").contains("Latin-1 (ISO 8859-1) or Windows-1252"));
+        assert!(help(b"\x93quoted\x94").contains("looks like Windows-1252"));
+        assert!(help(b"caf\xc3").contains("ends within a character"));
+        assert!(help(b"caf\xe4\xb8\xff\xff").contains("save it as UTF-8"));
+        assert!(help(b"\xff\xfea\0b\0").contains("iconv -f UTF-16 "));
+        assert!(help(b"\xfe\xff\0a\0b").contains("iconv -f UTF-16 "));
+        assert!(help(b"a\0b\0c\0d\0\xe9\0").contains("iconv -f UTF-16LE "));
+        assert!(help(b"\0a\0b\0c\0d\0\xe9").contains("iconv -f UTF-16BE "));
+    }
+
+    #[test]
+    fn the_concat_that_is_one_too_many() {
+        let kept = format!("#define a {}\n", "b##".repeat(CONCAT_LIMIT));
+        assert!(shader_reader::read(kept.as_bytes()).is_ok());
+        let wrong = format!("{kept}// é ##\n#if {}c##d\n", "中##".repeat(CONCAT_LIMIT));
+        let (message, _) = refused(wrong.as_bytes());
+        let range = message.range.unwrap();
+        assert_eq!(&wrong[range.start - 1..range.end + 2], "c##d\n");
+    }
+
+    #[test]
+    fn too_many_bytes() {
+        assert_eq!(too_long(Some(16_777_217)).sentence, "the source has 16,777,217 bytes: at most 16,777,216 are read");
+        assert_eq!(too_long(None).sentence, "the source has more than 16,777,216 bytes: at most so many are read");
+    }
+
+    #[test]
+    fn notes_on_error_leaves() {
+        let sentence = |bytes: &[u8]| note(bytes).unwrap().sentence;
+        assert_eq!(note(b"void main() {}\n"), None);
+        assert_eq!(sentence(b"a @ b"), "no token begins with this character: it is an ERROR leaf");
+        assert!(sentence(b"@@").ends_with("(there is 1 more such leaf)"));
+        assert!(sentence(b"@@@").ends_with("(there are 2 more such leaves)"));
+        assert!(sentence(b"/***/").starts_with("this comment does not end"));
+        assert!(sentence(b"\"a\n").starts_with("this string does not end"));
+        assert!(sentence(b"#include <a\n").starts_with("this string does not end"));
+    }
+
+    #[test]
+    fn error_leaves_that_an_error_covers_are_not_noted() {
+        assert_eq!(note(b"#@\n"), None);
+        assert_eq!(note(b"#else @ @\n"), None);
+        assert_eq!(note(b"#else @\n@\n").unwrap().range, Some(8..9));
+    }
+
+    #[test]
+    fn byte_order_marks() {
+        let sentence = |text: &str| note(text.as_bytes()).unwrap().sentence;
+        assert!(sentence("\u{feff} /**/ #version 450\n").ends_with("makes text of the directive behind it"));
+        assert_eq!(sentence("\u{feff}\n#version 450\n"), "a byte order mark is an ERROR leaf");
+        assert!(sentence("a\u{feff}").starts_with("no token begins"));
+    }
+
+    #[test]
+    fn utf16_of_ascii_is_utf8_with_zeros() {
+        let message = note(b"a\0b\0c\0").unwrap();
+        assert!(message.help.unwrap().contains("UTF-16LE"));
+        assert_eq!(note(b"a\0").unwrap().help, None);
+    }
+}

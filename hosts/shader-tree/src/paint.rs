@@ -70,3 +70,17 @@ impl<T: fmt::Display> fmt::Display for Painted<T> {
         }
     }
 }
+
+#[cfg(test)]
+mod tests {
+    use super::*;
+
+    #[test]
+    fn colours_where_asked_for() {
+        assert_eq!(Paint::decide(Color::Always, false), Paint(true));
+        assert_eq!(Paint::decide(Color::Never, true), Paint(false));
+        assert_eq!(Paint::decide(Color::Auto, false), Paint(false));
+        assert_eq!(Paint(true).paint(Style::Error, "a").to_string(), "\x1b[1;31ma\x1b[0m");
+        assert_eq!(Paint(false).paint(Style::Error, "a").to_string(), "a");
+    }
+}
