@@ -52,6 +52,7 @@ struct Run {
     err: BufWriter<fs::File>,
     out_paint: Paint,
     err_paint: Paint,
+    err_terminal: bool,
     progress: Progress,
     tables: Tables,
 }
@@ -73,6 +74,7 @@ impl Run {
             begun: false,
             out_paint: Paint::decide(options.color, out.is_terminal()),
             err_paint: Paint::decide(options.color, err.is_terminal()),
+            err_terminal: err.is_terminal(),
             progress: Progress::new(options.files.len(), quiet && err.is_terminal() && !is_dumb()),
             out: stream(out)?,
             err: stream(err)?,
@@ -81,6 +83,10 @@ impl Run {
     }
 
     fn file(&mut self, number: usize, name: &str, file: &File) -> io::Result<Status> {
+        if *file == File::Stdin && io::stdin().is_terminal() && self.err_terminal {
+            writeln!(self.err, "shader-tree: reading standard input, up to Ctrl-D")?;
+            self.err.flush()?;
+        }
         let source = match file.read() {
             Ok(source) => source,
             Err(error) => return self.unread(number, name, &reason(&error)),
