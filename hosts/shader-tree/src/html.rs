@@ -7,6 +7,7 @@ use shader_reader::{SyntaxKind, View};
 use crate::diagnostics::{Message, Origin};
 use crate::paint::Paint;
 use crate::text::{grouped, pieces, Piece};
+use crate::width::width;
 
 mod nodes;
 mod source;
@@ -25,7 +26,10 @@ pub fn begin(names: &[String], out: &mut dyn Write) -> io::Result<()> {
     writeln!(out, "<meta name=\"viewport\" content=\"width=device-width, initial-scale=1\">")?;
     writeln!(out, "<meta name=\"color-scheme\" content=\"light dark\">")?;
     write!(out, "<title>")?;
-    write_text(title.as_bytes(), out)?;
+    // A title holds no elements; names have no hidden characters.
+    for piece in pieces(title.as_bytes()) {
+        write_piece(piece, out)?;
+    }
     writeln!(out, " - shader-tree</title>")?;
     write!(
         out,
@@ -130,24 +134,41 @@ fn class(kind: SyntaxKind) -> &'static str {
     }
 }
 
-/// Text of a page: what HTML takes for markup is escaped, and what can't be seen is shown by an escape.
+/// Text of a page: what HTML takes for markup is escaped, and what can't be seen is shown by an escape. A wide
+/// character stands in two columns, whatever its font says, so that marks stand under their bytes.
 fn write_text(bytes: &[u8], out: &mut dyn Write) -> io::Result<()> {
-    let mut escape = String::new();
+    let mut wide = false;
     for piece in pieces(bytes) {
-        match piece {
-            Piece::Char('&') => out.write_all(b"&amp;")?,
-            Piece::Char('<') => out.write_all(b"&lt;")?,
-            Piece::Char('>') => out.write_all(b"&gt;")?,
-            Piece::Char('"') => out.write_all(b"&quot;")?,
-            Piece::Char('\'') => out.write_all(b"&#39;")?,
-            Piece::Char('\t') => out.write_all(b"\t")?,
-            Piece::Char(char) if !piece.is_hidden() => write!(out, "{char}")?,
-            _ => {
-                escape.clear();
-                piece.show(&mut escape);
-                write!(out, "<span class=\"hidden\">{escape}</span>")?;
-            }
+        // Marks that combine with a character stay with it.
+        if wide && piece.columns() > 0 {
+            write!(out, "</span>")?;
+            wide = false;
         }
+        if matches!(piece, Piece::Char(char) if width(char) == 2) {
+            write!(out, "<span class=\"wide\">")?;
+            wide = true;
+        }
+        write_piece(piece, out)?;
+    }
+    if wide {
+        write!(out, "</span>")?;
     }
     Ok(())
+}
+
+fn write_piece(piece: Piece, out: &mut dyn Write) -> io::Result<()> {
+    match piece {
+        Piece::Char('&') => write!(out, "&amp;"),
+        Piece::Char('<') => write!(out, "&lt;"),
+        Piece::Char('>') => write!(out, "&gt;"),
+        Piece::Char('"') => write!(out, "&quot;"),
+        Piece::Char('\'') => write!(out, "&#39;"),
+        Piece::Char('\t') => write!(out, "\t"),
+        Piece::Char(char) if !piece.is_hidden() => write!(out, "{char}"),
+        _ => {
+            let mut escape = String::new();
+            piece.show(&mut escape);
+            write!(out, "<span class=\"hidden\">{escape}</span>")
+        }
+    }
 }

@@ -46,6 +46,7 @@ fn the_source_is_whole() {
     whole("/* a\nb\r\nc */ #\n\t#if 1 \\\n  2\n#endif");
     whole("\"a\nb\" <!-- --> &amp; &lt; ' \" > ]]> <script>alert(1)</script>\n</pre></style>\n");
     whole("#include <a\nb>\n#()# x\n#define a ## b ## c\n");
+    whole("#else /* a\n\n\nb */ \"\n\n\" c\n");
     whole("#undef\nfoo\n#extension\n\n#define f(\n#else /* a\nb */ c\n#(");
     whole("\u{feff}#a\u{202e}\u{0}\u{1b}[31m\u{9b}\u{fffe}\u{200b}中é\n");
 }
@@ -97,7 +98,10 @@ fn errors_stand_under_their_bytes() {
         "{page}"
     );
     assert!(page.contains(&format!("{}^ <b>error:</b> &#39;#ifdef&#39; : extra tokens", " ".repeat(18))), "{page}");
-    assert!(page.contains("<span class=\"bad wrong\" title=\"ERROR 15..18\">中</span>"), "{page}");
+    assert!(
+        page.contains("<span class=\"bad wrong\" title=\"ERROR 15..18\"><span class=\"wide\">中</span></span>"),
+        "{page}"
+    );
 }
 
 #[test]
@@ -137,6 +141,16 @@ fn names_are_escaped() {
     let ran = folder.run(&["--html", "a<b>&\n\".frag"]);
     parts(ran.text());
     assert!(ran.text().contains("<h2>a&lt;b&gt;&amp;\\n&quot;.frag</h2>"));
+}
+
+#[test]
+fn wide_characters_take_two_columns_with_what_combines() {
+    let folder = Folder::new("page-wide");
+    folder.file("中.frag", "// か\u{3099}ab\n");
+    let ran = folder.run(&["--html", "中.frag"]);
+    parts(ran.text());
+    assert!(ran.text().contains("// <span class=\"wide\">か\u{3099}</span>ab</span>"), "{}", ran.text());
+    assert!(ran.text().contains("<title>中.frag - shader-tree</title>"));
 }
 
 #[test]

@@ -115,7 +115,7 @@ impl<'a> Pane<'a> {
         }
         let wrong = leaf.start < self.covered;
         let text = match without_newline(&self.origin.bytes[part]) {
-            [] if wrong => "⏎".as_bytes(),
+            [] if wrong && leaf.kind == SyntaxKind::NEWLINE => "⏎".as_bytes(),
             [] => return Ok(()),
             text => text,
         };
