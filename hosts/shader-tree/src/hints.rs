@@ -38,13 +38,15 @@ fn not_utf8(bytes: &[u8]) -> (Message, Vec<u32>) {
     };
     let at = wrong.valid_up_to();
     let end = wrong.error_len().map_or(bytes.len(), |length| at + length);
-    let byte = bytes[at];
-    let sentence = format!("not UTF-8: byte 0x{byte:02X} at offset {at}");
-    let help = match wrong.error_len() {
-        _ if utf16(bytes).is_some() => utf16_help(bytes),
-        None => "the source ends within a character: it may be cut off".into(),
-        _ if stands_alone(bytes, at) => single_byte_help(byte),
-        _ => "save it as UTF-8".into(),
+    let sentence = format!("not UTF-8: byte 0x{:02X} at offset {at}", bytes[at]);
+    let help = if utf16(bytes).is_some() {
+        utf16_help(bytes)
+    } else if wrong.error_len().is_none() {
+        "the source ends within a character: it may be cut off".into()
+    } else if stands_alone(bytes, at) {
+        single_byte_help(bytes[at])
+    } else {
+        "save it as UTF-8".into()
     };
     // What stands before the byte is UTF-8.
     let lines = line_table(&bytes[..at]).unwrap_or_else(|_| vec![0]);
@@ -57,18 +59,18 @@ enum Utf16 {
     Big,
 }
 
-/// Whether bytes look like UTF-16: by a byte order mark, or by a zero in most pairs, on one side.
+/// Whether bytes look like UTF-16: by a byte order mark, or by a zero on one side of most pairs.
 fn utf16(bytes: &[u8]) -> Option<Utf16> {
     match bytes {
         [0xff, 0xfe, ..] => return Some(Utf16::Little),
         [0xfe, 0xff, ..] => return Some(Utf16::Big),
         _ => {}
     }
-    let pairs = || bytes.chunks_exact(2).take(512);
-    let most = |count: usize| pairs().count() >= 2 && count * 10 >= pairs().count() * 8;
-    if most(pairs().filter(|pair| pair[0] != 0 && pair[1] == 0).count()) {
+    let pairs: Vec<_> = bytes.chunks_exact(2).take(512).map(|pair| (pair[0] == 0, pair[1] == 0)).collect();
+    let most = |zeros| pairs.len() >= 2 && pairs.iter().filter(|&&pair| pair == zeros).count() * 5 >= pairs.len() * 4;
+    if most((false, true)) {
         Some(Utf16::Little)
-    } else if most(pairs().filter(|pair| pair[0] == 0 && pair[1] != 0).count()) {
+    } else if most((true, false)) {
         Some(Utf16::Big)
     } else {
         None
@@ -84,10 +86,10 @@ fn utf16_help(bytes: &[u8]) -> String {
     format!("this looks like UTF-16: convert it, for instance by iconv -f {name} -t UTF-8")
 }
 
-/// A byte above ASCII between ASCII.
+/// Whether a byte that is not ASCII stands between ASCII.
 fn stands_alone(bytes: &[u8], at: usize) -> bool {
     let ascii = |byte: Option<&u8>| byte.is_none_or(u8::is_ascii);
-    bytes[at] >= 0x80 && ascii(at.checked_sub(1).and_then(|at| bytes.get(at))) && ascii(bytes.get(at + 1))
+    ascii(at.checked_sub(1).and_then(|at| bytes.get(at))) && ascii(bytes.get(at + 1))
 }
 
 fn single_byte_help(byte: u8) -> String {

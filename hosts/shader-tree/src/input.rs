@@ -12,7 +12,7 @@ use crate::text::escaped_name;
 #[derive(Debug, PartialEq, Eq)]
 pub struct Source {
     pub bytes: Vec<u8>,
-    /// How many bytes the file has, where it is known.
+    /// How many bytes a file above the limit has, where it is known.
     pub length: Option<u64>,
 }
 
@@ -32,7 +32,7 @@ impl File {
                 let file = fs::File::open(path)?;
                 let bytes = limited(&file)?;
                 let about = file.metadata()?;
-                let length = about.is_file().then_some(about.len());
+                let length = Some(about.len()).filter(|&length| about.is_file() && length > SOURCE_LIMIT as u64);
                 Ok(Source { bytes, length })
             }
         }

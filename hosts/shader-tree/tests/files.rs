@@ -75,7 +75,7 @@ fn files_that_cannot_be_read() {
 fn files_without_permission() {
     let folder = Folder::new("permission");
     let path = folder.file("secret.frag", "#a\n");
-    fs::set_permissions(&path, fs::Permissions::from_mode(0)).unwrap();
+    fs::set_permissions(&path, fs::Permissions::from_mode(0o000)).unwrap();
     // The superuser reads it all the same.
     if File::open(&path).is_err() {
         let ran = folder.run(&["secret.frag"]);
