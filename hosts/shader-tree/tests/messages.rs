@@ -2,7 +2,9 @@
 
 mod common;
 
-use common::{fed, Folder};
+use std::fs::{self, File};
+
+use common::{fed, program, Folder};
 
 /// What `--check` says about a source.
 fn said(source: impl AsRef<[u8]>) -> String {
@@ -150,14 +152,15 @@ fn colours_are_asked_for_or_left_out() {
 fn messages_come_behind_what_is_written() {
     let folder = Folder::new("order");
     let path = folder.file("both", "");
-    let both = std::fs::File::options().append(true).open(&path).unwrap();
+    let both = File::options().append(true).open(&path).unwrap();
     folder.file("a", "#a\n");
-    folder.file("b", "b\n");
-    let mut command = common::program();
-    command.args(["--tokens", "missing", "a", "b"]).current_dir(folder.path());
+    folder.file("b", "b");
+    let mut command = program();
+    command.args(["--tree", "a", "missing", "b"]).current_dir(folder.path());
     command.stdout(both.try_clone().unwrap()).stderr(both);
     assert_eq!(command.status().unwrap().code(), Some(2));
-    let text = std::fs::read_to_string(path).unwrap();
-    let first: Vec<_> = text.lines().take(2).collect();
-    assert_eq!(first, ["shader-tree: missing: can't be read: No such file or directory", "==> a <=="]);
+    let text = fs::read_to_string(path).unwrap();
+    let places = ["==> a <==", "NEWLINE@2..3", "a:1:2: error:", "missing: can't be read", "==> b <=="]
+        .map(|part| text.find(part));
+    assert!(places.iter().all(Option::is_some) && places.is_sorted(), "{text}");
 }
