@@ -1,10 +1,11 @@
 #!/usr/bin/env bash
 # Times the exported calls beside the Rust: bench.sh ORACLE [calls | reading | shapes | growth ..]
+# Times readings of files of one's own, those of 0.5 to 4 KB: bench.sh ORACLE files FILE ..
 # Counts instructions a byte with callgrind: bench.sh ORACLE instructions [SHAPE ..]
 # See README.md.
 set -u
 here=$(cd "$(dirname "$0")" && pwd)
-[ $# -ge 1 ] || { echo "usage: bench.sh ORACLE [calls | reading | shapes | growth .. | instructions [SHAPE ..]]" >&2; exit 2; }
+[ $# -ge 1 ] || { echo "usage: bench.sh ORACLE [calls | reading | shapes | growth .. | files FILE .. | instructions [SHAPE ..]]" >&2; exit 2; }
 "$here/build.sh" "$1" || exit 2
 shift
 bench=$here/../target/compare-host/target/release/bench

@@ -1,6 +1,7 @@
 //! Times the library beside the Rust: the best of five rounds, both in each, in processor time.
 //!
 //!     bench [calls | reading | shapes | growth ..]   all four, if none is named
+//!     bench files FILE ..                            readings of files of one's own, those of 0.5 to 4 KB
 //!     bench once CALL SHAPE BYTES                    one call, to count its instructions
 //!     bench words                                    the words of the shapes
 //!
@@ -96,6 +97,7 @@ fn run(words: &[String]) -> i32 {
     let words: Vec<&str> = words.iter().map(String::as_str).collect();
     match words[..] {
         ["once", call, shape, bytes] => return once(call, shape, bytes.parse().expect("a number of bytes")),
+        ["files", ref names @ ..] => return real(names),
         ["words"] => {
             all_shapes().for_each(|shape| println!("{:14} {}", shape.word, shape.about));
             return 0;
@@ -105,7 +107,7 @@ fn run(words: &[String]) -> i32 {
     let parts: [(&str, fn(&mut Bars)); 4] =
         [("calls", time_calls), ("reading", time_reading), ("shapes", time_shapes), ("growth", time_growth)];
     if let Some(word) = words.iter().find(|&word| !parts.iter().any(|(name, _)| name == word)) {
-        eprintln!("{word}: bench [calls | reading | shapes | growth ..], bench once CALL SHAPE BYTES, bench words");
+        eprintln!("{word}: bench [calls | reading | shapes | growth ..], bench files FILE .., bench once CALL SHAPE BYTES, bench words");
         return 2;
     }
     let mut bars = Bars::default();
@@ -162,18 +164,38 @@ fn time_reading(bars: &mut Bars) {
         ratio(bars, shape.about, source.len(), [ours, rust], bar);
         println!("    {}", tables.described(source.len()));
     }
-    let files = shapes::small_files(FILES);
-    let bytes = files.iter().map(Vec::len).sum();
-    // One memory is lent for all files, of each table just as much as the file needs; the Rust's allocator gives it the same memory again too.
+    let about = "5,000 files of 0.5 to 4 KB, one call each";
+    let (files, [ours, rust]) = time_files(shapes::small_files(FILES));
+    ratio(bars, about, files.len(), [ours, rust], FILES_BAR);
+    println!("    {}", Tables::read_once(&files).described(files.len()));
+}
+
+/// Many files, one call each: all of them joined, and the times of both. One memory is lent for all files, of each table
+/// just as much as the file needs; the Rust's allocator gives it the same memory again too.
+fn time_files(files: Vec<Vec<u8>>) -> (Vec<u8>, [Duration; 2]) {
     let lengths: Vec<[usize; 3]> = files.iter().map(|file| Tables::needed(file).lengths()).collect();
     let mut tables = Tables::of([0, 1, 2].map(|table| lengths.iter().map(|file| file[table]).max().unwrap()));
-    let [ours, rust] =
+    let times =
         best([&mut || files.iter().zip(&lengths).for_each(|(file, &lengths)| tables.read_with(lengths, file)), &mut || {
             files.iter().for_each(|file| calls::parse_only(black_box(std::str::from_utf8(file).unwrap())))
         }]);
-    ratio(bars, "5,000 files of 0.5 to 4 KB, one call each", bytes, [ours, rust], FILES_BAR);
-    let joined = files.concat();
-    println!("    {}", Tables::read_once(&joined).described(joined.len()));
+    (files.concat(), times)
+}
+
+/// Files of one's own, as many of them as are 0.5 to 4 KB of UTF-8; no bar
+fn real(names: &[&str]) -> i32 {
+    let read = |name: &&str| std::fs::read(name).ok();
+    let small = |file: &Vec<u8>| (512..=4096).contains(&file.len()) && std::str::from_utf8(file).is_ok();
+    let files: Vec<Vec<u8>> = names.iter().filter_map(read).filter(small).collect();
+    if files.is_empty() {
+        eprintln!("bench files FILE ..: none of them is 0.5 to 4 KB of UTF-8");
+        return 2;
+    }
+    let count = files.len();
+    let (files, [ours, rust]) = time_files(files);
+    let speeds = [ours, rust].map(|time| speed(files.len(), time));
+    println!("{count} files, {} bytes: library {:.1}, Rust {:.1} MB/s, {:.2} times", files.len(), speeds[0], speeds[1], times(ours, rust));
+    0
 }
 
 /// Prints the speed of both, and whether the bar is met
