@@ -1,33 +1,46 @@
 -- Bytes that begin no newline are passed over.
 use Prim.Native.Nat.{ℕ, _+_, _-_, _≤_, _<_}
 use native.Mathlib.Omega.{arith}
-use mathlib.Core.Path.{_≡_}
-use mathlib.Core.Bool.{true, false}
+use mathlib.Core.Path.{_≡_, refl, sym, _∙_}
+use mathlib.Core.Bool.{Bool, true, false, not, false≢true}
 use mathlib.Core.List.{List}
-use borrow.Author.Tests.{leb-true, le-leb, lt-leb, ne-eqb}
+use borrow.Author.Tests.{ne-eqb}
 use mir.Val.{Fits}
 use mir.Syntax.{w8}
-use lib.Dec.{leb}
+use lib.Dec.{eqb}
 use lib.ListN.{length, getD}
 use Rattle.definition.specs.Newline.{LF, CR, CRLF, newline}
 use Rattle.text.specs.Stretch.{nowhere, place-of, first-place}
-use Rattle.text.proofs.Stretches.{stretch-join, stretch-same}
+use Rattle.text.proofs.Stretches.{stretch-join, stretch-more, stretch-same}
 use Rattle.text.proofs.Places.{place-here, place-nowhere, look-over}
-use Rattle.line_map.specs.Quiet.{quiet, is-quiet, Quiet, step}
+use Rattle.line_map.specs.Quiet.{quiet, Quiet, step}
 use Rattle.line_map.proofs.Ends.{ends-from, none-at}
 
--- The place of one byte.
-module _ (b k : ℕ) where
-  pub low-here : b < quiet → k ≡ place-of is-quiet b k
-  low-here h = place-here is-quiet b k (lt-leb quiet b h)
+-- One byte, and its place.
+module _ (b : ℕ) where
+  pub quiet-feed : b ≡ LF → false ≡ quiet b
+  unfolding quiet
+  quiet-feed e = rw e
 
-  pub low-nowhere : quiet ≤ b → nowhere ≡ place-of is-quiet b k
-  low-nowhere h = place-nowhere is-quiet b k (le-leb quiet b h)
+  pub quiet-other : (b ≡ LF → ⊥) → not (eqb b CR) ≡ quiet b
+  unfolding quiet
+  quiet-other n = rw (ne-eqb b LF n)
 
--- A step is passed over, up to a place in it or whole.
-module _ (s : List ℕ) (from at m : ℕ) (k : Quiet s from at) (h : step ≤ length s - at) (e : m ≡ first-place is-quiet step at s) where
+  module _ (k : ℕ) (t : Bool) (e : t ≡ quiet b) where
+    pub low-here : t ≡ false → k ≡ place-of quiet b k
+    low-here h = place-here quiet b k (sym e ∙ h)
+
+    pub low-nowhere : t ≡ true → nowhere ≡ place-of quiet b k
+    low-nowhere h = place-nowhere quiet b k (sym e ∙ h)
+
+-- One byte more is passed over,
+pub quiet-more : (s : List ℕ) (at i : ℕ) (t : Bool) → Quiet s at i → i < length s → t ≡ quiet (getD s i 0) → t ≡ true → Quiet s at (i + 1)
+quiet-more s at i t k l e h = stretch-more s at i k l (sym e ∙ h)
+
+-- or a step, up to a place in it or whole.
+module _ (s : List ℕ) (from at m : ℕ) (k : Quiet s from at) (h : step ≤ length s - at) (e : m ≡ first-place quiet step at s) where
   over : (n : ℕ) → n ≤ step → n ≤ m → Quiet s from (at + n)
-  over n a b = stretch-join s from at (at + n) k (look-over is-quiet step s at m (omega (arith, k .within)) e n a b)
+  over n a b = stretch-join s from at (at + n) k (look-over quiet step s at m (omega (arith, k .within)) e n a b)
 
   pub step-part : m < step → Quiet s from (at + m)
   step-part l = over m (omega arith) (omega arith)
@@ -36,10 +49,14 @@ module _ (s : List ℕ) (from at m : ℕ) (k : Quiet s from at) (h : step ≤ le
   step-whole l = over step (omega arith) l
 
 -- So no newline begins in a stretch of quiet bytes.
-quiet-byte : (b : ℕ) → Fits w8 b → leb quiet b ≡ true → newline b ≡ false
-quiet-byte b h e =
-    let l : quiet ≤ b = leb-true quiet b e in
-    rw (ne-eqb b LF (λ q. omega arith), ne-eqb b CR (λ q. omega arith), ne-eqb b CRLF (λ q. omega arith))
+quiet-byte : (b : ℕ) → Fits w8 b → quiet b ≡ true → newline b ≡ false
+unfolding quiet
+quiet-byte b h e = go (eqb b LF) (eqb b CR) refl refl
+  where
+    go : (t u : Bool) → eqb b LF ≡ t → eqb b CR ≡ u → newline b ≡ false
+    go true u p q = absurd (false≢true (rw p at e))
+    go false true p q = absurd (false≢true (rw (p, q) at e))
+    go false false p q = rw (p, q, ne-eqb b CRLF (λ z. omega arith))
 
 pub quiet-over : (s : List ℕ) → ((i : ℕ) → Fits w8 (getD s i 0)) → (at to : ℕ) → Quiet s at to → ends-from at s ≡ ends-from to s
 quiet-over s known at = stretch-same s at (λ i. ends-from i s) (λ i h p. none-at s i h (quiet-byte (getD s i 0) (known i) p))

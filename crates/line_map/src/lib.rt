@@ -10,12 +10,9 @@ ghost use lib.ListN.{length};
 ghost use Rattle.definition.specs.LineMap.{line-starts};
 ghost use Rattle.definition.specs.Calls.{longest-source, building-lines, looking-up};
 ghost use Rattle.line_map.specs.Lookup.{looked, Looks-up};
-ghost use Rattle.line_map.specs.Quiet.{step, is-quiet, Quiet};
+ghost use Rattle.line_map.specs.Quiet.{quiet, step, Quiet};
 ghost use Rattle.text.specs.Stretch.{place-of, first-place};
 ghost use Rattle.table.specs.Fills.{Fills, Written};
-
-// Bytes below this may begin a newline; no other byte does.
-const QUIET: u8 = 14;
 
 // How many bytes are looked at together.
 const STEP: usize = 64;
@@ -23,20 +20,30 @@ const STEP: usize = 64;
 // Stands for no place of a step.
 const NOWHERE: u8 = 255;
 
-// The place of a byte where it may begin a newline.
-fn low_at(b: u8, k: u8) -> u8
-    ensures { λ r. ⌜ r ≡ place-of is-quiet b k ⌝ }
+// Whether a byte begins no newline.
+fn is_quiet(b: u8) -> bool
+    ensures { λ r. ⌜ r ≡ quiet b ⌝ }
 {
-    if b < QUIET {
-        return k;
+    if b == b'\n' {
+        return false;
     }
-    NOWHERE
+    b != b'\r'
 }
 
-// Where the first of the STEP bytes at a place stands that may begin a newline, counted from there.
+// The place of a byte that begins a newline.
+fn low_at(b: u8, k: u8) -> u8
+    ensures { λ r. ⌜ r ≡ place-of quiet b k ⌝ }
+{
+    if is_quiet(b) {
+        return NOWHERE;
+    }
+    k
+}
+
+// Where the first of the STEP bytes at a place stands that begins a newline, counted from there.
 fn first_low(src: &[u8], at: usize) -> u8
     requires { ⌜ at + step ≤ length (now src) ⌝ }
-    ensures { λ r. ⌜ r ≡ first-place is-quiet step at (now (src .entry)) ⌝ }
+    ensures { λ r. ⌜ r ≡ first-place quiet step at (now (src .entry)) ⌝ }
 {
     let mut m = NOWHERE;
     let mut k: usize = 0;
@@ -47,22 +54,23 @@ fn first_low(src: &[u8], at: usize) -> u8
     m
 }
 
-// Behind the bytes at a place that begin no newline, up to one that may, byte by byte.
+// Behind the bytes at a place that begin no newline, up to one that does, byte by byte.
 fn last_low(src: &[u8], at: usize) -> usize
     requires { ⌜ at ≤ length (now src) ⌝ }
     ensures { λ r. ⌜ Quiet (now (src .entry)) at r ⌝ }
 {
     let mut i = at;
     while i < src.len() {
-        if src[i] < QUIET {
+        if is_quiet(src[i]) {
+            i += 1;
+        } else {
             return i;
         }
-        i += 1;
     }
     i
 }
 
-// Behind the bytes at a place that begin no newline, up to one that may.
+// Behind the bytes at a place that begin no newline, up to one that does.
 fn next_low(src: &[u8], at: usize) -> usize
     requires { ⌜ at ≤ length (now src) ⌝ }
     ensures { λ r. ⌜ Quiet (now (src .entry)) at r ⌝ }

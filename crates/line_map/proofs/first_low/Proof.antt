@@ -2,12 +2,12 @@
 use Prim.Native.Nat.{_-_}
 use Rattle.text.proofs.Cases.{cases}
 use Rattle.text.proofs.Places.{Looking, look-none, look-more, look-all}
-use Rattle.line_map.specs.Quiet.{is-quiet, step}
+use Rattle.line_map.specs.Quiet.{quiet, step}
 use Rattle.line_map.proofs.first_low.Statement.{statement}
 use Rattle.line_map.proofs.first_low.Tie as tie
 
 abbrev Inv-loop : tie.InvT-loop
-Inv-loop src at m₀ k₀ m k = Looking is-quiet src at step k m
+Inv-loop src at m₀ k₀ m k = Looking quiet src at step k m
 
 abbrev μ-loop : tie.MeasureT-loop
 μ-loop src at m₀ k₀ m k = step - k
@@ -18,7 +18,7 @@ first-low-spec =
     (tie.spec
     Inv-loop
     μ-loop
-    (λ c. look-none is-quiet _ _ step)
+    (λ c. look-none quiet _ _ step)
     (λ c. search cases)
     (λ c. search cases)
     (λ c. search cases)
@@ -26,5 +26,5 @@ first-low-spec =
     (λ c κs. search cases)
     (λ c. search cases)
     (λ c. search cases)
-    (λ c. search (look-more is-quiet, cases))
-    (λ c. search (look-all is-quiet, cases)))
+    (λ c. search (look-more quiet, cases))
+    (λ c. search (look-all quiet, cases)))

@@ -2,8 +2,9 @@
 use Prim.Native.Nat.{_-_}
 use lib.ListN.{length}
 use Rattle.text.proofs.Cases.{cases}
-use Rattle.text.proofs.Stretches.{stretch-none, stretch-more}
+use Rattle.text.proofs.Stretches.{stretch-none}
 use Rattle.line_map.specs.Quiet.{Quiet}
+use Rattle.line_map.proofs.Quiets.{quiet-more}
 use Rattle.line_map.proofs.last_low.Statement.{statement}
 use Rattle.line_map.proofs.last_low.Tie as tie
 
@@ -21,8 +22,9 @@ last-low-spec =
     μ-loop
     (λ c. search (stretch-none, cases))
     (λ c. search cases)
+    (λ c κs. search cases)
     (λ c. search cases)
     (λ c. search cases)
+    (λ c. search (quiet-more, cases))
     (λ c. search cases)
-    (λ c. search (stretch-more, cases))
     (λ c. search cases))
