@@ -96,9 +96,6 @@ fn header_names(header: &str, prefix: &str) -> Numbers {
 #[test]
 fn the_header_has_the_same_numbers() {
     let header = file("include/shader_reader.h");
-    if !header.contains("SHADER_KIND_") {
-        return; // A header without names: the definition alone is compared.
-    }
     assert_eq!(header_names(&header, "SHADER_KIND_"), kinds());
     let mut with_none = refusals();
     with_none.insert("NONE".to_string(), 0);
