@@ -242,7 +242,8 @@ static inline shader_place shader_find_line(const uint32_t *lines, size_t count,
     return place;
 }
 
-/* Sizes. Lengths of the three tables of shader_read, in numbers. */
+/* Sizes. Lengths of the three tables of shader_read, in numbers. A source above SHADER_SOURCE_LIMIT, which is refused
+ * whatever it is lent, has those of an empty one. */
 typedef struct { size_t entries, errors, lines; } shader_room;
 
 static inline size_t shader_at_most(size_t a, size_t b) { return a < b ? a : b; }
@@ -251,7 +252,7 @@ static inline size_t shader_at_most(size_t a, size_t b) { return a < b ? a : b; 
  * bytes for each byte of the source. In every run 2 * bytes + 1 entries and bytes errors sufficed, which is not
  * proved. */
 static inline shader_room shader_room_bound(size_t bytes) {
-    size_t n = shader_at_most(bytes, SHADER_SOURCE_LIMIT);
+    size_t n = bytes > SHADER_SOURCE_LIMIT ? 0 : bytes;
     shader_room room;
     room.entries = SHADER_ENTRY_NUMBERS * (8 * n + 1);
     room.errors = SHADER_ERROR_NUMBERS * 8 * n;
@@ -259,12 +260,14 @@ static inline shader_room shader_room_bound(size_t bytes) {
     return room;
 }
 
-/* Lengths that nearly always suffice, some 7 bytes for each byte of the source: an entry for every 3 bytes (shaders as
- * people write them have a leaf for every 3.5), a line for every 16, few errors. */
+/* Lengths to begin with: bytes / 2 + 64 entries, bytes / 256 + 16 errors, bytes / 16 + 64 lines, but never more than
+ * the bound. That is 10.4 bytes for each byte of the source, and some 2,200 more. Of 4,963 shaders of two test suites,
+ * glslang's and SPIRV-Cross's, 46 needed more entries, 1 more lines and none more errors. (bytes / 3 + 64 entries, 7.1
+ * bytes for each byte, were too few for 874 of them, 2 * bytes / 5 + 64, 8.4 bytes, for 263.) */
 static inline shader_room shader_room_guess(size_t bytes) {
-    size_t n = shader_at_most(bytes, SHADER_SOURCE_LIMIT);
-    shader_room bound = shader_room_bound(bytes), room;
-    room.entries = shader_at_most(SHADER_ENTRY_NUMBERS * (n / 3 + 64), bound.entries);
+    size_t n = bytes > SHADER_SOURCE_LIMIT ? 0 : bytes;
+    shader_room bound = shader_room_bound(n), room;
+    room.entries = shader_at_most(SHADER_ENTRY_NUMBERS * (n / 2 + 64), bound.entries);
     room.errors = shader_at_most(SHADER_ERROR_NUMBERS * (n / 256 + 16), bound.errors);
     room.lines = shader_at_most(n / 16 + 64, bound.lines);
     return room;
@@ -274,8 +277,9 @@ static inline shader_room shader_room_guess(size_t bytes) {
  * Nothing is lost by a refusal but the time of the call. Another refusal leaves the lengths as they are: it stands. */
 static inline shader_room shader_room_more(shader_room room, uint32_t refusal, size_t bytes) {
     shader_room bound = shader_room_bound(bytes);
-    if (refusal == SHADER_REFUSAL_ENTRIES) room.entries = shader_at_most(2 * room.entries + 64, bound.entries);
-    if (refusal == SHADER_REFUSAL_ERRORS) room.errors = shader_at_most(8 * room.errors + 64, bound.errors);
+    size_t entries = 2 * room.entries + SHADER_ENTRY_NUMBERS * 64, errors = 8 * room.errors + SHADER_ERROR_NUMBERS * 16;
+    if (refusal == SHADER_REFUSAL_ENTRIES) room.entries = shader_at_most(entries, bound.entries);
+    if (refusal == SHADER_REFUSAL_ERRORS) room.errors = shader_at_most(errors, bound.errors);
     if (refusal == SHADER_REFUSAL_LINES) room.lines = bound.lines;
     return room;
 }

@@ -17,6 +17,12 @@ names_of_kinds() {
     hosts/c/definition.sh kinds | diff - "$work/kinds"
 }
 
+# The Rust package is held to the same file by a test of its own.
+rows_to_lend() {
+    gcc -std=c99 -Iinclude hosts/c/tests/rooms.c -o "$work/rooms" || return 1
+    "$work/rooms" | diff hosts/c/tests/rooms.txt -
+}
+
 # The version of the header and of the cargo packages is one.
 one_version() {
     version=$(sed -n 's/^#define SHADER_READER_VERSION "\(.*\)"/\1/p' include/shader_reader.h)
@@ -32,5 +38,6 @@ echo memset >"$work/memset"
 sed -n 's/^shader_[a-z]* \(shader_[a-z_]*\)(.*/\1/p' include/shader_reader.h | sort >"$work/calls"
 try "the library needs memset alone, has the seven calls, no data and no bss" symbols
 try "numbers, calls and answers of the header are those of the crates" hosts/c/definition.sh
+try "sizes of tables are those that are stored" rows_to_lend
 try "one version everywhere" one_version
 try "names of kinds are those of the definition" names_of_kinds

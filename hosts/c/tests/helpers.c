@@ -41,9 +41,9 @@ static void test_rooms(void) {
     size_t most = SHADER_SOURCE_LIMIT;
     CHECK(room_is(shader_room_bound(0), 5, 0, 1) && room_is(shader_room_guess(0), 5, 0, 1));
     CHECK(room_is(shader_room_bound(10), 405, 800, 11));
-    CHECK(room_is(shader_room_guess(3072), 5 * 1088, 10 * 28, 256));
-    CHECK(room_is(shader_room_bound((size_t)-1), 5 * (8 * most + 1), 80 * most, most + 1));
-    CHECK(room_is(shader_room_guess((size_t)-1), 5 * (most / 3 + 64), 10 * (most / 256 + 16), most / 16 + 64));
+    CHECK(room_is(shader_room_guess(3072), 5 * 1600, 10 * 28, 256));
+    CHECK(room_is(shader_room_bound(most), 5 * (8 * most + 1), 80 * most, most + 1));
+    CHECK(room_is(shader_room_bound(most + 1), 5, 0, 1) && room_is(shader_room_guess((size_t)-1), 5, 0, 1));
     shader_room room = shader_room_guess(100000);
     for (uint32_t refusal = 0; refusal < 12; refusal++) {
         shader_room more = shader_room_more(room, refusal, 100000);

@@ -138,8 +138,8 @@ fn fill(src: &[u8], entries: &mut [u32], errors: &mut [u32], lines: &mut [u32]) 
 
 /// Reads a source into tables of its own.
 ///
-/// The tables begin with a guess that nearly always suffices, some 10 bytes for each byte of the source; where one does
-/// not, the source is read again with a longer one. What is not used is given back. Refusals:
+/// The tables begin with a guess, 10.4 bytes for each byte of the source and some 2,200 more, which suffices for most
+/// shaders; where one does not, the source is read again with a longer one. What is not used is given back. Refusals:
 /// [`Length`](Refusal::Length), [`Utf8`](Refusal::Utf8), [`Concats`](Refusal::Concats).
 pub fn read(src: &[u8]) -> Result<Reading, Refusal> {
     let mut tables = Tables::new();
