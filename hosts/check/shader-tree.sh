@@ -28,5 +28,19 @@ status 1 --check "$work/latin"
 head -c 16777217 /dev/zero >"$work/long"
 status 1 --check "$work/long"
 if "$tree" examples/layer_mask.frag >/dev/full 2>"$work/err"; then echo "a full disk was not told"; exit 1; fi
+
+# Installed, with its man page, which has the program's version and every option of its help.
 SHADER_READER_LIB=$library make install PREFIX="$work/with-tree"
-"$work/with-tree/bin/shader-tree" --help >/dev/null
+cmp build/shader-tree "$work/with-tree/bin/shader-tree"
+page=$work/with-tree/share/man/man1/shader-tree.1
+"$tree" --help >"$work/help"
+grep -q "\"$("$tree" --version)\"" "$page"
+sed 's/\\-/-/g' "$page" >"$work/page"
+for option in $(grep -o '^  -[-a-zA-Z]*\|, --[a-z]*' "$work/help" | tr -d ' ,'); do
+    grep -qwF -e "$option" "$work/page" || { echo "$option is not in the man page"; exit 1; }
+done
+if command -v man >/dev/null 2>&1; then
+    man --warnings -l "$page" >"$work/out" 2>"$work/warned"
+    grep -q 'EXIT STATUS' "$work/out"
+    [ ! -s "$work/warned" ] || { cat "$work/warned"; exit 1; }
+fi
