@@ -2,16 +2,16 @@
 strict="-Wall -Wextra -Wpedantic -Werror -Iinclude"
 sanitizers="address and undefined-behaviour sanitizers"
 sanitize="-g -fsanitize=address,undefined -fno-sanitize-recover=all"
-tests="calls null search helpers threads"
+tests="calls null search inlines threads"
 runner=
 
-# Compiles a test and runs it: test_with COMPILER TEST [FLAGS..]. `helpers` is told the samples, for which the guess must
+# Compiles a test and runs it: test_with COMPILER TEST [FLAGS..]. `inlines` is told the samples, for which the guess must
 # suffice.
 test_with() {
     compiler=$1 test=$2 words=
     shift 2
     case $compiler in *++) source=$test.cpp standard=c++11 ;; *) source=$test.c standard=c99 ;; esac
-    case $test in helpers) words=$(ls examples/*.frag) ;; esac
+    case $test in inlines) words=$(ls examples/*.frag) ;; esac
     $compiler -std=$standard $strict -pthread "hosts/c/tests/$source" "$library" -o "$work/test" "$@" || return 1
     $runner "$work/test" $words
 }
@@ -60,7 +60,7 @@ if needs musl-gcc "C with musl"; then
 fi
 if needs valgrind "tests under valgrind"; then
     runner="valgrind --quiet --error-exitcode=9"
-    suite "valgrind" gcc "calls null search helpers" -O1 -g
+    suite "valgrind" gcc "calls null search inlines" -O1 -g
     runner="valgrind --quiet --tool=helgrind --error-exitcode=9"
     suite "valgrind, races" gcc threads -O1 -g
     runner=

@@ -106,5 +106,5 @@ int main(int argc, char **argv) {
     test_rows();
     test_names();
     for (int i = 1; i < argc; i++) test_guess(argv[i]);
-    return told("helpers");
+    return told("inlines");
 }
