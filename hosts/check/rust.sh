@@ -1,4 +1,4 @@
-# The cargo packages of hosts/rust and hosts/shader-tree, in the copy that make.sh made; a part of hosts/check/run.
+# The cargo packages of hosts/rust and hosts/shader-tree, and README's program in Rust, in the copy that make.sh made; a part of hosts/check/run.
 
 # cargo_test PACKAGE
 cargo_test() {
@@ -18,7 +18,6 @@ cargo_test_2024() {
 }
 
 for package in rust shader-tree; do
-    [ -f "hosts/$package/Cargo.toml" ] || continue
     needs cargo "hosts/$package" || continue
     try "cargo test in hosts/$package" cargo_test $package
     if rustc --edition 2024 --print sysroot >/dev/null 2>&1; then
@@ -27,6 +26,7 @@ for package in rust shader-tree; do
         echo "skipped  hosts/$package in edition 2024: this rustc doesn't know it"
     fi
 done
-if [ -f hosts/shader-tree/Cargo.toml ] && needs cargo "make shader-tree"; then
+if needs cargo "README's program in Rust, make shader-tree"; then
+    try "README: its program in Rust" hosts/check/readme.sh "$copy" rust
     try "make shader-tree: files good and bad, installed" hosts/check/shader-tree.sh "$copy"
 fi
