@@ -1,4 +1,4 @@
-# The cargo packages of hosts/rust and hosts/shader-tree, and README's program in Rust, in the copy that make.sh made; a part of hosts/check/run.
+# The cargo packages, and README's program in Rust, in the copy that make.sh made; a part of hosts/check/run.
 
 # cargo_test PACKAGE
 cargo_test() {
