@@ -62,8 +62,8 @@ fn first_other(src: &[u8], at: usize) -> u8
     m
 }
 
-// The rest of an identifier, from `at` on, byte by byte.
-fn by_bytes(src: &[u8], table: &[u8; 256], at: usize) -> Token
+// The rest of an identifier, from `at` on.
+pub fn ident(src: &[u8], table: &[u8; 256], at: usize) -> Token
     requires { ⌜ now table ≡ class-table ⌝ }
     ensures { λ r. ⌜ r ≡ from state.ident 0 at (now (src .entry)) ⌝ }
 {
@@ -96,8 +96,8 @@ fn by_bytes(src: &[u8], table: &[u8; 256], at: usize) -> Token
     }
 }
 
-// The rest of an identifier, from `at` on: where it ends is looked for at once, since a processor does not foresee the end of a loop over it.
-pub fn ident(src: &[u8], table: &[u8; 256], at: usize) -> Token
+// The same, where it ends looked for at once: in text a processor does not foresee the end of a loop over an identifier.
+pub fn word(src: &[u8], table: &[u8; 256], at: usize) -> Token
     requires { ⌜ now table ≡ class-table ⌝ }
     ensures { λ r. ⌜ r ≡ from state.ident 0 at (now (src .entry)) ⌝ }
 {
@@ -113,5 +113,5 @@ pub fn ident(src: &[u8], table: &[u8; 256], at: usize) -> Token
             }
         }
     }
-    by_bytes(src, table, at)
+    ident(src, table, at)
 }

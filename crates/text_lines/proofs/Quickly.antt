@@ -7,14 +7,14 @@ use native.Mathlib.Omega.{arith}
 use native.Mathlib.Decide.{decLt}
 use lib.Dec.{eqb, leb}
 use lib.ListN.{length, take, drop, getD}
-use borrow.Author.Tests.{eqb-true, leb-true, eq-eqb}
+use borrow.Author.Tests.{eqb-true, eqb-false, leb-true, eq-eqb, not-true}
 use Rattle.definition.specs.Text.{ascii, byte}
 use Rattle.definition.specs.SyntaxKind.{Kind}
 use Rattle.definition.specs.Newline.{blank, class}
 use Rattle.definition.specs.Pre.{State, done, ident, whitespace, digits, find, begin, flag}
 use Rattle.theorems.specs.Walk.{name-kind}
 use Rattle.theorems.specs.Step.{Stepped, Pre-stepped, Gluing, glued-kind}
-use Rattle.theorems.proofs.Lexing.Glues.{every, Settled, settled-none, none-kind}
+use Rattle.theorems.proofs.Lexing.Glues.{every, Settled, settled-none, other-none, none-kind}
 use Rattle.theorems.proofs.Lexing.Gluing.{glue-start}
 use Rattle.theorems.proofs.Lexing.PreAt.{glue-over, glue-settled}
 use Rattle.theorems.proofs.Lexing.Open.{Open, In, word, number, blanks-only, Kinds, open-kind, quiet, quiet-settled, quiet-no-linecont, open-quiet}
@@ -66,15 +66,15 @@ module _ (c : ℕ) where
       no-glue = λ m. absurd (m z);
     }
 
-    pub alone-operator : (j : ℕ) → Kind.PERIOD ≤ c → c ≤ Kind.HASH → (c ≡ Kind.PERIOD → ⊥) → (c ≡ Kind.SLASH → ⊥) → (c ≡ Kind.LANGLE → ⊥)
-        → j ≡ glued-kind c d → eqb j 0 ≡ true → Alone c d
-    alone-operator j l h n s a e z = record {
+    pub alone-operator : Kind.PERIOD ≤ c → c ≤ Kind.HASH → (c ≡ Kind.PERIOD → ⊥) → (c ≡ Kind.SLASH → ⊥) → (c ≡ Kind.LANGLE → ⊥)
+        → (d ≡ Kind.EQUAL → ⊥) → not (eqb d c) ≡ true → Alone c d
+    alone-operator l h n s a e z = record {
       low = l;
       high = h;
       no-slash = s;
       no-less = a;
       no-number = λ y. absurd (n y);
-      no-glue = λ y. sym (eqb-true j 0 z) ∙ e;
+      no-glue = λ y. none-kind c d (other-none c d e (λ x. eqb-false d c (not-true _ z) (sym x)) (λ x w. n x));
     }
 
 -- A character that is a token alone.

@@ -34,7 +34,8 @@ pub fn single(c: u8) -> bool
     c <= Kind::QUESTION
 }
 
-// Whether nothing glues to an operator of class c, or a PERIOD, before a character of class d. Not said of `/` and `<`, which take more looking.
+// Whether nothing glues to an operator of class c, or a PERIOD, before a character of class d: only `=` and the operator itself may. Not said of `/` and
+// `<`, which take more looking.
 fn unglued(c: u8, d: u8) -> bool
     ensures { λ r. ⌜ (r ≡ true → Alone c d) ⌝ }
 {
@@ -53,7 +54,10 @@ fn unglued(c: u8, d: u8) -> bool
     if c == Kind::LANGLE {
         return false;
     }
-    syntax_kind::operators::glue(c, d) == 0
+    if d == Kind::EQUAL {
+        return false;
+    }
+    d != c
 }
 
 // The token at a place that begins with punctuation of class c, where it is one character; of kind 0 where that is not seen at once.
@@ -84,7 +88,7 @@ fn quick(src: &[u8], classes: &[u8; 256], at: usize, c: u8) -> Token
     ensures { λ r. ⌜ Quick (now (src .entry)) at r ⌝ }
 {
     if c == Class::LETTER {
-        let t = pre::ident::ident(src, classes, at + 1);
+        let t = pre::ident::word(src, classes, at + 1);
         let end = t.end;
         let kind = pre::name::name(src, at, end, t.kind);
         return Token { kind, end };

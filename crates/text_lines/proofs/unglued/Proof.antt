@@ -12,5 +12,5 @@ unglued-spec = tie.close (tie.spec
     (λ c. search (alone-period, cases))
     (λ c e. absurd (false≢true e))
     (λ c e. absurd (false≢true e))
-    (λ c κs. search cases)
+    (λ c e. absurd (false≢true e))
     (λ c. search (alone-operator, cases)))
