@@ -38,7 +38,7 @@ fn quick(src: &[u8], classes: &[u8; 256], at: usize) -> Token
 {
     let c = class::class_of(classes, src[at]);
     if c == Class::LETTER {
-        let t = pre::ident::word(src, classes, at + 1);
+        let t = pre::ident::ident(src, classes, at + 1);
         let end = t.end;
         let kind = pre::name::name(src, at, end, t.kind);
         return Token { kind, end };
