@@ -1,7 +1,7 @@
 -- Bytes that begin no newline are passed over.
 use Prim.Native.Nat.{ℕ, _+_, _-_, _≤_, _<_}
 use native.Mathlib.Omega.{arith}
-use mathlib.Core.Path.{_≡_, refl, sym, _∙_}
+use mathlib.Core.Path.{_≡_, sym, _∙_}
 use mathlib.Core.Bool.{Bool, true, false, not, false≢true}
 use mathlib.Core.List.{List}
 use borrow.Author.Tests.{ne-eqb}
@@ -9,10 +9,11 @@ use mir.Val.{Fits}
 use mir.Syntax.{w8}
 use lib.Dec.{eqb}
 use lib.ListN.{length, getD}
-use Rattle.definition.specs.Newline.{LF, CR, CRLF, newline}
+use Rattle.definition.specs.Newline.{LF, CR, newline}
+use Rattle.theorems.proofs.Lexing.Lines.{no-newline-byte}
 use Rattle.text.specs.Stretch.{nowhere, place-of, first-place}
 use Rattle.text.proofs.Stretches.{stretch-join, stretch-more, stretch-same}
-use Rattle.text.proofs.Places.{place-here, place-nowhere, look-over}
+use Rattle.text.proofs.Places.{place-here, place-nowhere, look-part, look-whole}
 use Rattle.line_map.specs.Quiet.{quiet, Quiet, step}
 use Rattle.line_map.proofs.Ends.{ends-from, none-at}
 
@@ -39,24 +40,16 @@ quiet-more s at i t k l e h = stretch-more s at i k l (sym e ∙ h)
 
 -- or a step, up to a place in it or whole.
 module _ (s : List ℕ) (from at m : ℕ) (k : Quiet s from at) (h : step ≤ length s - at) (e : m ≡ first-place quiet step at s) where
-  over : (n : ℕ) → n ≤ step → n ≤ m → Quiet s from (at + n)
-  over n a b = stretch-join s from at (at + n) k (look-over quiet step s at m (omega (arith, k .within)) e n a b)
-
   pub step-part : m < step → Quiet s from (at + m)
-  step-part l = over m (omega arith) (omega arith)
+  step-part l = stretch-join s from at (at + m) k (look-part quiet step s at m (omega (arith, k .within)) e l)
 
   pub step-whole : step ≤ m → Quiet s from (at + step)
-  step-whole l = over step (omega arith) l
+  step-whole l = stretch-join s from at (at + step) k (look-whole quiet step s at m (omega (arith, k .within)) e l)
 
 -- So no newline begins in a stretch of quiet bytes.
 quiet-byte : (b : ℕ) → Fits w8 b → quiet b ≡ true → newline b ≡ false
 unfolding quiet
-quiet-byte b h e = go (eqb b LF) (eqb b CR) refl refl
-  where
-    go : (t u : Bool) → eqb b LF ≡ t → eqb b CR ≡ u → newline b ≡ false
-    go true u p q = absurd (false≢true (rw p at e))
-    go false true p q = absurd (false≢true (rw (p, q) at e))
-    go false false p q = rw (p, q, ne-eqb b CRLF (λ z. omega arith))
+quiet-byte b h e = no-newline-byte b (omega arith) (λ z. false≢true (rw z at e)) (λ z. false≢true (rw z at e))
 
 pub quiet-over : (s : List ℕ) → ((i : ℕ) → Fits w8 (getD s i 0)) → (at to : ℕ) → Quiet s at to → ends-from at s ≡ ends-from to s
 quiet-over s known at = stretch-same s at (λ i. ends-from i s) (λ i h p. none-at s i h (quiet-byte (getD s i 0) (known i) p))

@@ -17,10 +17,7 @@ ghost use Rattle.table.specs.Fills.{Fills, Written};
 // How many bytes are looked at together.
 const STEP: usize = 64;
 
-// Stands for no place of a step.
-const NOWHERE: u8 = 255;
-
-// Whether a byte begins no newline.
+// Whether a byte begins no newline. No bound as in `pre::comment`, which would stop at every tab of an indented line.
 fn is_quiet(b: u8) -> bool
     ensures { λ r. ⌜ r ≡ quiet b ⌝ }
 {
@@ -35,7 +32,7 @@ fn low_at(b: u8, k: u8) -> u8
     ensures { λ r. ⌜ r ≡ place-of quiet b k ⌝ }
 {
     if is_quiet(b) {
-        return NOWHERE;
+        return stretch::NOWHERE;
     }
     k
 }
@@ -45,7 +42,7 @@ fn first_low(src: &[u8], at: usize) -> u8
     requires { ⌜ at + step ≤ length (now src) ⌝ }
     ensures { λ r. ⌜ r ≡ first-place quiet step at (now (src .entry)) ⌝ }
 {
-    let mut m = NOWHERE;
+    let mut m = stretch::NOWHERE;
     let mut k: usize = 0;
     while k < STEP {
         m = stretch::smaller(m, low_at(src[at + k], k as u8));

@@ -9,10 +9,11 @@ use lib.Dec.{eqb}
 use lib.ListN.{drop}
 use borrow.Author.Tests.{ne-eqb}
 use Rattle.definition.specs.Text.{byte}
-use Rattle.definition.specs.Newline.{LF, CR, CRLF, char-more, newline}
+use Rattle.definition.specs.Newline.{LF, CR, char-more, newline}
 use Rattle.definition.specs.Pre.{State, multi-comment, single-comment, quote-string, angle-string, more}
 use Rattle.theorems.specs.Walk.{longer, walk}
 use Rattle.theorems.proofs.Lexing.Chars.{Goes-on, tail, cr-lf, lf-cr, goes-on}
+use Rattle.theorems.proofs.Lexing.Lines.{no-newline-byte}
 use Rattle.theorems.proofs.Lexing.Walk.{walk-same, walk-more, zero-none}
 use Rattle.pre.specs.Scan.{from}
 
@@ -64,7 +65,7 @@ any-line c i s p = from-any single-comment (λ c. newline c ≡ false) (record {
   where
     takes-all : (c b c′ : ℕ) → newline c ≡ false → Goes-on c b c′ → (more single-comment b ≡ some single-comment) × ((newline c′ ≡ false) × (newline b ≡ false))
     takes-all c b c′ p (tail e l h) =
-        let n : newline b ≡ false = rw (ne-eqb b LF (λ z. omega arith), ne-eqb b CR (λ z. omega arith), ne-eqb b CRLF (λ z. omega arith)) in
+        let n : newline b ≡ false = no-newline-byte b (omega arith) (λ z. omega arith) (λ z. omega arith) in
         (rw (n, ne-eqb b (byte "\\") (λ z. omega arith)), (rw e p, n))
     takes-all c b c′ p (cr-lf e h k) = absurd (true≢false (rw h at p))
     takes-all c b c′ p (lf-cr e h k) = absurd (true≢false (rw h at p))

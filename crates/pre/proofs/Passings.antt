@@ -1,5 +1,5 @@
 -- Bytes that comments and identifiers go on with are passed over, several together.
-use Prim.Native.Nat.{ℕ, zero, suc, _+_, _-_, _^_, _≤_, _<_, max}
+use Prim.Native.Nat.{ℕ, zero, suc, _+_, _-_, _≤_, _<_, max}
 use native.Mathlib.Decide.{decLt}
 use native.Mathlib.Omega.{arith}
 use mathlib.Core.Path.{_≡_, refl, sym, _∙_}
@@ -7,18 +7,19 @@ use mathlib.Core.Bool.{Bool, true, false, not, _||_, and-eq-true-iff}
 use mathlib.Core.Option.{none, some}
 use mathlib.Core.List.{List}
 use mir.Val.{Fits}
-use mir.Syntax.{w8, w64}
+use mir.Syntax.{w8}
 use borrow.Author.Tests.{leb-true, le-leb, lt-leb, eqb-true, eq-eqb, ne-eqb, not-true}
 use lib.Dec.{leb, eqb}
 use lib.ListN.{length, getD}
 use Rattle.definition.specs.Text.{among, byte}
 use Rattle.definition.specs.SyntaxKind.{Kind}
-use Rattle.definition.specs.Newline.{LF, CR, CRLF, letter, digit, newline}
+use Rattle.definition.specs.Newline.{letter, digit, newline}
 use Rattle.definition.specs.Pre.{State, ident, single-comment, multi-comment, kind-of, more}
+use Rattle.theorems.proofs.Lexing.Lines.{no-newline-byte}
 use Rattle.theorems.proofs.Lexing.Walk.{zero-none}
 use Rattle.text.specs.Stretch.{Stretch, Look, gathered, step-passes, nowhere, place-of, first-place}
 use Rattle.text.proofs.Stretches.{Gathering, gather-more, step-tested, stretch-same}
-use Rattle.text.proofs.Places.{place-here, place-nowhere, look-over, look-stops}
+use Rattle.text.proofs.Places.{place-here, place-nowhere, look-part, look-whole, look-stops}
 use Rattle.pre.specs.Scan.{from}
 use Rattle.pre.specs.Passes.{quiet, in-line, line-step, in-word, word-step, star-mark, mark-look, star-look, Passes}
 use Rattle.pre.proofs.Classes.{Closed, closed-by, closed-is, letter-within, digit-within}
@@ -98,8 +99,7 @@ module _ (b : ℕ) where
 
   quiet-byte : Fits w8 b → in-line b ≡ true → newline b ≡ false
   quiet-byte k h =
-      let l : quiet ≤ b = leb-true quiet b (not-loud h .0) in
-      rw (ne-eqb b LF (λ q. omega arith), ne-eqb b CR (λ q. omega arith), ne-eqb b CRLF (λ q. omega arith))
+      let l : quiet ≤ b = leb-true quiet b (not-loud h .0) in no-newline-byte b (omega arith) (λ q. omega arith) (λ q. omega arith)
 
   word-goes : in-word b ≡ true → more ident b ≡ some ident
   unfolding in-word more
@@ -135,6 +135,11 @@ module _ (s : List ℕ) (i : ℕ) (h : i < length s) where
 
 pub pass-none : (q : State) (s : List ℕ) (at : ℕ) → Passes q s at at
 pass-none q s at = record { forward = omega arith; is = refl }
+
+-- Behind what is passed over, a stretch whose bytes leave the state as it is.
+module _ {P : ℕ → Type 0} (q : State) (s : List ℕ) (on : (i : ℕ) → i < length s → P (getD s i 0) → from q 0 i s ≡ from q 0 (i + 1) s) where
+  pass-on : (from₀ at to : ℕ) → Passes q s from₀ at → Stretch P s at to → Passes q s from₀ to
+  pass-on from₀ at to k p = record { forward = omega (arith, k .forward, p .forward); is = k .is ∙ stretch-same s at (λ i. from q 0 i s) on to p }
 
 -- Some bytes looked at together.
 module _ (f : ℕ → ℕ) (s : List ℕ) (at : ℕ) where
@@ -177,45 +182,20 @@ module _ (f : ℕ → ℕ) (s : List ℕ) (at : ℕ) where
     pub nearer : length s - (at + look .size) < length s - at
     nearer = omega (arith, within)
 
-    step-on : (q : State) (from₀ : ℕ) → Passes q s from₀ at → ((i : ℕ) → i < length s → f (getD s i 0) ≡ 0 → from q 0 i s ≡ from q 0 (i + 1) s)
-        → Passes q s from₀ (at + look .size)
-    step-on q from₀ k on = record { forward = omega (arith, k .forward); is = k .is ∙ stretch-same s at (λ i. from q 0 i s) on (at + look .size) step-stretch }
-
 pub star-on : (s : List ℕ) (from₀ at : ℕ) (r : Bool) → r ≡ true → Passes multi-comment s from₀ at → r ≡ step-passes star-look s at → Passes multi-comment s from₀ (at + star-look .size)
-star-on s from₀ at r t k e = step-on star-mark s at r e t multi-comment from₀ k (λ i h p. star-over s i h p)
-
--- So many bytes stand at a place.
-pub stood : (r : Bool) (a b : ℕ) → r ≡ leb a b → r ≡ true → a ≤ b
-stood r a b e t = leb-true a b (sym e ∙ t)
-
--- What lies within them is a place of the source, and fits a number.
-module _ (size : ℕ) (r : Bool) (at : ℕ) (s : List ℕ) (e : r ≡ leb (at + size) (length s)) (t : r ≡ true) where
-  pub part-within : (n : ℕ) → n < size → at + n < length s
-  part-within n h = omega (arith, stood r (at + size) (length s) e t)
-
-  pub part-fits : (n : ℕ) → n < size → length s < 2 ^ 64 → Fits w64 (at + n)
-  part-fits n h b = omega (arith, stood r (at + size) (length s) e t)
-
-  pub whole-fits : length s < 2 ^ 64 → Fits w64 (at + size)
-  whole-fits b = omega (arith, stood r (at + size) (length s) e t)
-
-  pub whole-nearer : 0 < size → length s - (at + size) < length s - at
-  whole-nearer h = omega (arith, stood r (at + size) (length s) e t)
+star-on s from₀ at r t k e = pass-on multi-comment s (star-over s) from₀ at (at + star-look .size) k (step-stretch star-mark s at r e t)
 
 -- A look at a single-line comment is passed over, up to a place in it or whole,
 module _ (s : List ℕ) (known : (i : ℕ) → Fits w8 (getD s i 0)) (from₀ at m : ℕ) (k : Passes single-comment s from₀ at)
     (h : at + line-step ≤ length s) (e : m ≡ first-place in-line line-step at s) where
-  over : (n : ℕ) → n ≤ line-step → n ≤ m → Passes single-comment s from₀ (at + n)
-  over n a b = record {
-    forward = omega (arith, k .forward);
-    is = k .is ∙ stretch-same s at (λ i. from single-comment 0 i s) (λ i l p. line-over s i l (known i) p) (at + n) (look-over in-line line-step s at m h e n a b);
-  }
+  over : (to : ℕ) → Stretch (λ b. in-line b ≡ true) s at to → Passes single-comment s from₀ to
+  over to = pass-on single-comment s (λ i l. line-over s i l (known i)) from₀ at to k
 
   pub line-part : m < line-step → Passes single-comment s from₀ (at + m)
-  line-part l = over m (omega arith) (omega arith)
+  line-part l = over (at + m) (look-part in-line line-step s at m h e l)
 
   pub line-whole : line-step ≤ m → Passes single-comment s from₀ (at + line-step)
-  line-whole l = over line-step (omega arith) l
+  line-whole l = over (at + line-step) (look-whole in-line line-step s at m h e l)
 
 -- and an identifier that ends in a look is read.
 pub word-ends : (s : List ℕ) (at m : ℕ) → at + word-step ≤ length s → m ≡ first-place in-word word-step at s → m < word-step → (getD s (at + m) 0 ≡ byte "\\" → ⊥)
@@ -223,5 +203,5 @@ pub word-ends : (s : List ℕ) (at m : ℕ) → at + word-step ≤ length s → 
 unfolding kind-of
 word-ends s at m h e l n =
     let b : in-word (getD s (at + m) 0) ≡ false = look-stops in-word word-step s at m h e (omega arith) l in
-    let over = stretch-same s at (λ i. from ident 0 i s) (λ i l p. word-over s i l p) (at + m) (look-over in-word word-step s at m h e m (omega arith) (omega arith)) in
+    let over = stretch-same s at (λ i. from ident 0 i s) (word-over s) (at + m) (look-part in-word word-step s at m h e l) in
     sym (over ∙ stop-at ident (at + m) s (omega arith) (word-stops (getD s (at + m) 0) b n))

@@ -26,11 +26,8 @@ fn width_at(src: &[u8], at: usize) -> usize
 // How many bytes of a single-line comment are looked at together.
 const LINE_STEP: usize = 64;
 
-// Bytes below this may begin a newline; no other byte does.
+// Bytes below this may begin a newline; no other byte does. One comparison for both newline characters: tabs, which it stops at too, are rare in comments.
 const QUIET: u8 = 14;
-
-// Stands for no place of a look.
-const NOWHERE: u8 = 255;
 
 // The place of a byte that may end or bend a single-line comment.
 fn loud_at(b: u8, k: u8) -> u8
@@ -42,7 +39,7 @@ fn loud_at(b: u8, k: u8) -> u8
     if b == b'\\' {
         return k;
     }
-    NOWHERE
+    stretch::NOWHERE
 }
 
 // Where the first such byte of the LINE_STEP bytes at a place stands, counted from there.
@@ -50,7 +47,7 @@ fn first_loud(src: &[u8], at: usize) -> u8
     requires { ⌜ at + line-step ≤ length (now src) ⌝ }
     ensures { λ r. ⌜ r ≡ first-place in-line line-step at (now (src .entry)) ⌝ }
 {
-    let mut m = NOWHERE;
+    let mut m = stretch::NOWHERE;
     let mut k: usize = 0;
     while k < LINE_STEP {
         m = stretch::smaller(m, loud_at(src[at + k], k as u8));

@@ -16,9 +16,6 @@ ghost use Rattle.text.specs.Stretch.{place-of, first-place};
 // How many bytes are looked at together.
 const STEP: usize = 32;
 
-// Stands for no place of a look.
-const NOWHERE: u8 = 255;
-
 // Whether a byte lies in a range.
 fn among(low: u8, high: u8, b: u8) -> bool
     ensures { λ r. ⌜ r ≡ among low high b ⌝ }
@@ -34,16 +31,16 @@ fn other_at(b: u8, k: u8) -> u8
     ensures { λ r. ⌜ r ≡ place-of in-word b k ⌝ }
 {
     if among(b'A', b'Z', b) {
-        return NOWHERE;
+        return stretch::NOWHERE;
     }
     if among(b'a', b'z', b) {
-        return NOWHERE;
+        return stretch::NOWHERE;
     }
     if among(b'0', b'9', b) {
-        return NOWHERE;
+        return stretch::NOWHERE;
     }
     if b == b'_' {
-        return NOWHERE;
+        return stretch::NOWHERE;
     }
     k
 }
@@ -53,7 +50,7 @@ fn first_other(src: &[u8], at: usize) -> u8
     requires { ⌜ at + word-step ≤ length (now src) ⌝ }
     ensures { λ r. ⌜ r ≡ first-place in-word word-step at (now (src .entry)) ⌝ }
 {
-    let mut m = NOWHERE;
+    let mut m = stretch::NOWHERE;
     let mut k: usize = 0;
     while k < STEP {
         m = stretch::smaller(m, other_at(src[at + k], k as u8));

@@ -1,13 +1,36 @@
--- The first place of a look where a byte does not pass a test.
-use Prim.Native.Nat.{ℕ, zero, suc, _+_, _-_, _≤_, _<_, min}
+-- Looks at several bytes together: they stand in the source, and the first place where one does not pass a test.
+use Prim.Native.Nat.{ℕ, zero, suc, _+_, _-_, _^_, _≤_, _<_, min}
 use native.Mathlib.Decide.{decLt}
 use native.Mathlib.Numerals.{add-one}
 use native.Mathlib.Omega.{arith}
-use mathlib.Core.Path.{_≡_, refl, _∙_}
+use mathlib.Core.Path.{_≡_, refl, sym, _∙_}
 use mathlib.Core.Bool.{Bool, true, false}
 use mathlib.Core.List.{List}
+use mir.Val.{Fits}
+use mir.Syntax.{w64}
+use borrow.Author.Tests.{leb-true}
+use lib.Dec.{leb}
 use lib.ListN.{length, getD}
 use Rattle.text.specs.Stretch.{Stretch, nowhere, place-of, first-place}
+use Rattle.text.proofs.Cases.{cases}
+
+-- So many bytes stand at a place.
+pub stood : (r : Bool) (a b : ℕ) → r ≡ leb a b → r ≡ true → a ≤ b
+stood r a b e t = leb-true a b (sym e ∙ t)
+
+-- What lies within them is a place of the source, and fits a number.
+module _ (size : ℕ) (r : Bool) (at : ℕ) (s : List ℕ) (e : r ≡ leb (at + size) (length s)) (t : r ≡ true) where
+  pub part-within : (n : ℕ) → n < size → at + n < length s
+  part-within n h = omega (arith, stood r (at + size) (length s) e t)
+
+  pub part-fits : (n : ℕ) → n < size → length s < 2 ^ 64 → Fits w64 (at + n)
+  part-fits n h b = omega (arith, stood r (at + size) (length s) e t)
+
+  pub whole-fits : length s < 2 ^ 64 → Fits w64 (at + size)
+  whole-fits b = omega (arith, stood r (at + size) (length s) e t)
+
+  pub whole-nearer : 0 < size → length s - (at + size) < length s - at
+  whole-nearer h = omega (arith, stood r (at + size) (length s) e t)
 
 -- The place of one byte.
 module _ (test : ℕ → Bool) (b k : ℕ) where
@@ -90,9 +113,20 @@ module _ (test : ℕ → Bool) (s : List ℕ) (at : ℕ) where
         (omega arith, rw q (r .0))
   ]
 
+-- What the loop over a look's bytes keeps,
+abbrev pub looking : (ℕ → Bool) → ℕ → List ℕ → ℕ → ℕ → ℕ → ℕ → ℕ → Type 0
+looking test size s at m₀ k₀ m k = Looking test s at size k m
+
+-- how many bytes are left to it,
+abbrev pub look-left : ℕ → List ℕ → ℕ → ℕ → ℕ → ℕ → ℕ → ℕ
+look-left size s at m₀ k₀ m k = size - k
+
+-- and the laws by which `search` proves it.
+pub ruleset looks = (look-none, look-more, look-all, cases)
+
 -- A look is passed over, up to a place in it or whole.
 module _ (test : ℕ → Bool) (size : ℕ) (s : List ℕ) (at m : ℕ) (h : at + size ≤ length s) (e : m ≡ first-place test size at s) where
-  pub look-over : (n : ℕ) → n ≤ size → n ≤ m → Stretch (λ b. test b ≡ true) s at (at + n)
+  look-over : (n : ℕ) → n ≤ size → n ≤ m → Stretch (λ b. test b ≡ true) s at (at + n)
   look-over n a b = record {
     forward = omega arith;
     within = omega arith;
@@ -101,6 +135,12 @@ module _ (test : ℕ → Bool) (size : ℕ) (s : List ℕ) (at m : ℕ) (h : at 
         let l : i - at < m = omega arith in
         rw t at (before-first test s at size (i - at) (omega arith) (rw e at l));
   }
+
+  pub look-part : m < size → Stretch (λ b. test b ≡ true) s at (at + m)
+  look-part l = look-over m (omega arith) (omega arith)
+
+  pub look-whole : size ≤ m → Stretch (λ b. test b ≡ true) s at (at + size)
+  look-whole l = look-over size (omega arith) l
 
   pub look-stops : size ≤ nowhere → m < size → test (getD s (at + m) 0) ≡ false
   look-stops f l = at-first test s at size m f e (omega arith) .1

@@ -4,6 +4,9 @@ ghost use Prim.Native.Nat.{_+_, min, max};
 ghost use lib.Dec.{leb};
 ghost use lib.ListN.{length};
 
+// Stands for no place of a look.
+pub const NOWHERE: u8 = 255;
+
 // The smaller of two bytes.
 pub fn smaller(a: u8, b: u8) -> u8
     ensures { λ r. ⌜ r ≡ min a b ⌝ }

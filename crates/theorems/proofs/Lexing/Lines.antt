@@ -1,5 +1,5 @@
 -- Where lines start, byte by byte: a byte that begins no newline is passed by itself, and a newline gives the start behind it.
-use Prim.Native.Nat.{ℕ, suc, _+_, _≤_}
+use Prim.Native.Nat.{ℕ, suc, _+_, _≤_, _<_}
 use native.Mathlib.Nat.{add-zero}
 use native.Mathlib.Omega.{arith}
 use mathlib.Core.Path.{_≡_, refl, ap, sym, _∙_}
@@ -35,9 +35,13 @@ module _ (at b : ℕ) (bs : List ℕ) where
       let k : newline (char-row b bs .kind) ≡ true = newline-kept b bs ∙ h in
       rw (chars-cons b bs, newline-ends, k, chars-later b bs)
 
+-- A byte other than both newline characters begins no newline.
+pub no-newline-byte : (b : ℕ) → b < 256 → (b ≡ LF → ⊥) → (b ≡ CR → ⊥) → newline b ≡ false
+no-newline-byte b h n m = rw (ne-eqb b LF n, ne-eqb b CR m, ne-eqb b CRLF (λ e. omega arith))
+
 -- What goes on with a character that is no newline is no newline.
 not-newline : (c b d : ℕ) → newline c ≡ false → Goes-on c b d → newline b ≡ false
-not-newline c b d h (tail e l m) = rw (ne-eqb b LF (λ e. omega arith), ne-eqb b CR (λ e. omega arith), ne-eqb b CRLF (λ e. omega arith))
+not-newline c b d h (tail e l m) = no-newline-byte b (omega arith) (λ e. omega arith) (λ e. omega arith)
 not-newline c b d h (cr-lf e k l) = absurd (true≢false (sym (ap newline k) ∙ h))
 not-newline c b d h (lf-cr e k l) = absurd (true≢false (sym (ap newline k) ∙ h))
 

@@ -4,7 +4,8 @@ use lib.ListN.{length}
 use Rattle.definition.specs.Pre.{single-comment}
 use Rattle.pre.specs.Passes.{line-step, Passes}
 use Rattle.text.proofs.Cases.{cases}
-use Rattle.pre.proofs.Passings.{pass-none, stood, part-fits, whole-fits, whole-nearer, line-part, line-whole}
+use Rattle.text.proofs.Places.{stood, part-fits, whole-fits, whole-nearer}
+use Rattle.pre.proofs.Passings.{pass-none, line-part, line-whole}
 use Rattle.pre.proofs.comment.pass_quiet.Statement.{statement}
 use Rattle.pre.proofs.comment.pass_quiet.Tie as tie
 

@@ -1,7 +1,8 @@
 -- `word` reads the rest of an identifier, at once where it ends in a look.
 use Rattle.text.proofs.Cases.{cases}
+use Rattle.text.proofs.Places.{stood, part-within, part-fits}
 use Rattle.pre.specs.Passes.{word-step}
-use Rattle.pre.proofs.Passings.{stood, part-within, part-fits, word-ends}
+use Rattle.pre.proofs.Passings.{word-ends}
 use Rattle.pre.proofs.ident.word.Statement.{statement}
 use Rattle.pre.proofs.ident.word.Tie as tie
 
