@@ -27,7 +27,7 @@ use Rattle.table.proofs.Rows.{laid-none}
 use Rattle.tree.specs.declared.Pen.{Pen}
 use Rattle.tree.specs.Machine.{Open, Shut, Writer, writer, pen-at, events, step, run}
 use Rattle.tree.specs.Writes.{Ready}
-use Rattle.tree.proofs.Cleared.{first-standing}
+use Rattle.tree.proofs.Front.{first-standing}
 use Rattle.tree.proofs.Writes.{writes-laid, open-depth, open-standing}
 use Rattle.error.specs.Log.{log, adds}
 use Rattle.error.proofs.Adds.{adds-laid}
