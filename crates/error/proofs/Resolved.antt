@@ -3,18 +3,15 @@ use Prim.Native.Nat.{ℕ, _+_, _-_, _≤_}
 use mathlib.Core.Path.{_≡_, refl, ap, sym, _∙_}
 use mathlib.Core.List.{List, [], _∷_, _++_, append-assoc}
 use native.Mathlib.Omega.{arith}
-use lib.ListN.{length, drop, getD, set, replicate, length-append}
+use lib.ListN.{length, drop, getD, set, length-append}
 use lib.Seq.{getD-append-add, sets, sets-eq}
 use Rattle.definition.specs.Tree.{Width}
 use Rattle.definition.specs.LineMap.{LineCol, get-line-and-col}
 use Rattle.definition.specs.Error.{Err, error-numbers}
-use Rattle.definition.specs.Calls.{padded}
 use Rattle.theorems.proofs.Refusals.{length-errors}
-use Rattle.table.proofs.Tables.{zeros}
 use Rattle.table.proofs.Sets.{set-right}
-use Rattle.error.specs.Log.{Offset, log, adds}
+use Rattle.error.specs.Log.{Offset}
 use Rattle.error.specs.Lines.{located, resolved}
-use Rattle.error.proofs.Adds.{unlocated-numbers, cleared-whole}
 use Rattle.error.proofs.Resolving.{located-in}
 
 module _ (lines old : List ℕ) where
@@ -44,15 +41,7 @@ module _ (lines old : List ℕ) where
       ∙ resolved-row (a ++ x) z (n + Width.error) es m
       ∙ append-assoc a x (error-numbers lines es ++ z)
 
-  -- Whatever lines and columns stood there.
-  pub resolved-padded : (es : List Err) (room : ℕ) → resolved lines (padded (error-numbers old es) room) 0 (length es) ≡ padded (error-numbers lines es) room
-  unfolding padded
-  resolved-padded es room =
-      let e : length (error-numbers old es) ≡ length (error-numbers lines es) = length-errors old es ∙ sym (length-errors lines es) in
-      resolved-row [] (replicate (room - length (error-numbers old es)) 0) 0 es refl
-      ∙ ap (λ n. error-numbers lines es ++ replicate (room - n) 0) e
-
-  -- And whatever stands behind them.
+  -- Whatever lines and columns stood there, and whatever stands behind them.
   pub resolved-written : (es : List Err) (t : List ℕ) → length (error-numbers old es) ≤ length t
       → resolved lines (sets t 0 (error-numbers old es)) 0 (length es) ≡ sets t 0 (error-numbers lines es)
   resolved-written es t h =
@@ -61,10 +50,3 @@ module _ (lines old : List ℕ) where
       ∙ resolved-row [] (drop (0 + length (error-numbers old es)) t) 0 es refl
       ∙ ap (λ n. error-numbers lines es ++ drop (0 + n) t) e
       ∙ sym (sets-eq (error-numbers lines es) t 0 (omega arith))
-
--- Errors added to a table that was all zeros, and then filled in, if they fit.
-pub cleared-resolved : (lines : List ℕ) (room : ℕ) (es : List Err) → length (error-numbers lines es) ≤ room
-    → resolved lines (adds (log (zeros room) 0) es .table) 0 (length es) ≡ padded (error-numbers lines es) room
-cleared-resolved lines room es h =
-    let b : length (unlocated-numbers es) ≤ room = omega (arith, length-errors lines es, length-errors [] es) in
-    ap (λ l. resolved lines (l .table) 0 (length es)) (cleared-whole room es b) ∙ resolved-padded lines [] es room

@@ -1,17 +1,14 @@
--- The line table of a source, with zeros behind it, is one that errors can be looked up in.
+-- The line table of a source rises, so that errors can be looked up in it.
 use Prim.Native.Nat.{ℕ, _+_, _-_, _≤_}
-use mathlib.Core.Path.{_≡_, refl, ap, _∙_}
+use mathlib.Core.Path.{_≡_, refl}
 use mathlib.Core.Bool.{Bool, true, false}
 use mathlib.Core.List.{List, [], _∷_}
 use native.Mathlib.Omega.{arith}
 use borrow.Author.Tests.{lt-ltb}
-use lib.ListN.{length, take, replicate, length-append}
-use lib.Seq.{take-append-seam}
+use lib.ListN.{length}
 use Rattle.definition.specs.Runs.{Run, text}
 use Rattle.definition.specs.Newline.{chars, newline}
 use Rattle.definition.specs.LineMap.{newline-ends, line-starts, rises, line-table}
-use Rattle.definition.specs.Calls.{padded}
-use Rattle.error.specs.Lines.{Starts}
 
 -- Each newline ends behind the one before.
 ends-rise : (s at : ℕ) (cs : List (Run ℕ ℕ)) → s ≤ at → rises s (newline-ends at cs) ≡ true
@@ -28,20 +25,3 @@ ends-rise s at (c ∷ cs) h = go (newline (c .kind)) refl (λ n. ends-rise n (at
 pub lines-rise : (src : List ℕ) → line-table (line-starts src) ≡ true
 unfolding line-table line-starts
 lines-rise src = ends-rise 0 0 (chars src) (omega arith)
-
-module _ (src : List ℕ) (room : ℕ) where
-  abbrev starts : List ℕ
-  starts = line-starts src
-
-  -- What is used of its table is the line table,
-  pub used-lines : take (length starts) (padded starts room) ≡ starts
-  unfolding padded
-  used-lines = take-append-seam starts (replicate (room - length starts) 0)
-
-  -- and it rises.
-  pub lines-start : Starts (padded starts room) (length starts)
-  unfolding padded
-  lines-start = record {
-    within = omega (arith, length-append starts (replicate (room - length starts) 0));
-    rising = ap line-table used-lines ∙ lines-rise src;
-  }

@@ -8,7 +8,7 @@ use Rattle.io.specs.Counts as io
 use Rattle.definition.specs.Calls.{reading, reading-body}
 use Rattle.table.specs.Fills.{Fills}
 use Rattle.text.specs.declared.Counted.{Counted}
-use Rattle.reading.specs.declared.Reading.{Reading}
+use Rattle.tables.specs.declared.Reading.{Reading}
 use Rattle.reading.specs.Promise.{left-by, Reads-source}
 use Rattle.records.specs.Rubbish.{most}
 use Rattle.records.proofs.Answering.{lent}

@@ -2,7 +2,7 @@
 use Rattle.definition.specs.Text.{ℕ, zero, suc, List, [], _∷_, eqb, if_then_else_}
 use Rattle.definition.specs.Calls.{Filled, Reading}
 use mathlib.Core.Path.{_≡_}
-use Rattle.reading.specs.declared.Reading as code
+use Rattle.tables.specs.declared.Reading as code
 use Rattle.text.specs.declared.Counted.{Counted}
 
 -- The numbers of a table that are not 0.

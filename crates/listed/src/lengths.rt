@@ -3,9 +3,9 @@
 use crate::print;
 use crate::print::ENTRY;
 use crate::print::ERROR;
-use reading::Reading;
 use records::rubbish;
 use records::rubbish::MOST;
+use tables::Reading;
 use text::Counted;
 ghost use mathlib.Core.Path.{_≡_};
 ghost use Prim.Native.Nat.{_-_, _≤_, min};

@@ -4,7 +4,7 @@ pub mod lengths;
 mod lent;
 pub mod print;
 
-use reading::Reading;
+use tables::Reading;
 ghost use lib.ListN.{length};
 ghost use Rattle.reading.specs.Promise.{Reads-source};
 

@@ -1,6 +1,6 @@
 // The lines of a listing: a word, and numbers behind commas.
 use libc::STDOUT_FILENO;
-use reading::Reading;
+use tables::Reading;
 ghost use mathlib.Core.Path.{_≡_};
 ghost use Prim.Native.Nat.{_<_, min};
 ghost use lib.ListN.{length};

@@ -17,9 +17,10 @@ use Rattle.text.proofs.Refusals.{source-length}
 use Rattle.rows.specs.declared.BodyRow.{BodyRow}
 use Rattle.reading.specs.Promise.{body-checks, Reads-body}
 use Rattle.reading.specs.Parsed.{ParsedBody}
-use Rattle.reading.specs.Ended.{Countable, body-ended-checks, BodyRefused, BodyFinished}
+use Rattle.tables.specs.Decided.{Countable, body-ended-checks, BodyRefused, BodyFinished}
 use Rattle.reading.proofs.Promises.{body-refused-by, body-accepted-by, body-refused-source, body-refused-concats, body-refused-entries, body-not-refused}
-use Rattle.reading.proofs.Ending.{body-over, body-short, body-well, laid-short, laid-fits, laid-end, laid-cleared}
+use Rattle.tables.proofs.Ending.{body-over, body-short, body-well}
+use Rattle.reading.proofs.Fitting.{laid-short, laid-fits, laid-end, laid-cleared}
 use Rattle.theorems.proofs.Weights.{few-body-entries}
 
 -- The text is refused,

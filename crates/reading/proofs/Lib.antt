@@ -1,5 +1,5 @@
 pub mod Promises
 pub mod Parsing
-pub mod Ending
+pub mod Fitting
 pub mod Outcomes
 pub mod BodyOutcomes

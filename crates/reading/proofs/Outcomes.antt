@@ -19,12 +19,14 @@ use Rattle.text.proofs.Refusals.{source-length}
 use Rattle.error.specs.Lines.{Starts, resolved}
 use Rattle.error.proofs.Resolved.{resolved-written}
 use Rattle.error.proofs.Starting.{lines-rise}
-use Rattle.reading.specs.declared.Reading.{Reading}
-use Rattle.reading.specs.declared.tables.Ends.{Ends}
+use Rattle.tables.specs.declared.Reading.{Reading}
+use Rattle.tables.specs.declared.Ends.{Ends}
 use Rattle.reading.specs.Promise.{Whole, Reads-source}
-use Rattle.reading.specs.Ended.{Ended, ended-checks, Refused, Countable, Fit, cleared-behind, Finished}
+use Rattle.reading.specs.Parsed.{Ended}
+use Rattle.tables.specs.Decided.{ended-checks, Refused, Countable, Fit, cleared-behind, Finished}
 use Rattle.reading.proofs.Promises.{refused-by, accepted-by, refused-source, refused-concats, refused-entries, refused-errors, refused-lines, not-refused}
-use Rattle.reading.proofs.Ending.{ended-over, ended-entries, ended-errors, ended-lines, ended-well, front-is, cleared-is, laid-short, laid-fits, laid-table, laid-end, laid-cleared}
+use Rattle.tables.proofs.Ending.{ended-over, ended-entries, ended-errors, ended-lines, ended-well}
+use Rattle.reading.proofs.Fitting.{front-is, cleared-is, laid-short, laid-fits, laid-table, laid-end, laid-cleared}
 use Rattle.theorems.proofs.Weights.{few-entries, few-errors}
 
 -- A source that is refused.

@@ -2,11 +2,12 @@
 use Prim.Native.Nat.{ℕ, _<_}
 use mathlib.Core.Path.{_≡_, refl, sym, ap, _∙_}
 use mathlib.Core.Bool.{false, _||_}
-use mathlib.Core.List.{List, _++_, append-nil}
+use mathlib.Core.List.{List, [], _++_, append-nil}
 use native.Mathlib.Omega.{arith}
 use lib.ListN.{length}
 use Rattle.definition.specs.SyntaxKind.{Kind}
 use Rattle.definition.specs.Glue.{tokens}
+use Rattle.definition.specs.LineMap.{line-starts}
 use Rattle.definition.specs.Tree.{placed, Forest, leaves, body-concats}
 use Rattle.definition.specs.Parser.{inline, while, after, wrap}
 use Rattle.definition.specs.Syntax.{trimmed, trailing, parse, parse-define-body}
@@ -19,14 +20,17 @@ use Rattle.theorems.proofs.Tiling.Tiles.{placed-lies}
 use Rattle.theorems.proofs.Items.{parse-items}
 use Rattle.theorems.proofs.Heights.Whole.{height-parse, height-define-body}
 use Rattle.theorems.proofs.Replay.Whole.{placed-leaves}
-use Rattle.table.specs.Row.{far, page}
+use Rattle.table.specs.Fills.{Written}
+use Rattle.table.specs.Row.{far, page, within}
 use Rattle.table.proofs.Tables.{zeros}
+use Rattle.table.proofs.Rows.{laid-none}
 use Rattle.tree.specs.declared.Pen.{Pen}
 use Rattle.tree.specs.Machine.{Open, Shut, Writer, writer, pen-at, events, step, run}
 use Rattle.tree.specs.Writes.{Ready}
-use Rattle.tree.proofs.Cleared.{first-standing}
+use Rattle.tree.proofs.Front.{first-standing}
 use Rattle.tree.proofs.Writes.{writes-laid, open-depth, open-standing}
 use Rattle.error.specs.Log.{log, adds}
+use Rattle.error.proofs.Adds.{adds-laid}
 use Rattle.parser.specs.declared.Seen.{Seen}
 use Rattle.parser.specs.declared.Run.{Run}
 use Rattle.parser.specs.Rest.{run-of, Sees, Reading, unread}
@@ -38,7 +42,7 @@ use Rattle.parser_run.proofs.Laws.{reads-wrap}
 use Rattle.file.specs.Ground.{Grounded}
 use Rattle.file.specs.Advance.{items-of}
 use Rattle.file.proofs.Grounds.{front-lies}
-use Rattle.reading.specs.Parsed.{Begins, Lent, Parsed, ParsedBody}
+use Rattle.reading.specs.Parsed.{Begins, Lent, Parsed, ParsedBody, Ended}
 
 -- Nothing is read or written yet.
 pub begins-is : (src : List ℕ) (s : Seen) (p : Pen) (r : Run) → Sees src 0 false s → p ≡ pen-at 0 0 0 0 → r ≡ run-of s p
@@ -114,3 +118,14 @@ body-parsed src t o t₁ o₁ r n e x =
       over = x .over-is;
       tree = λ z. rw (ap (λ (v : Writer). page (v .table) (v .pen .n)) (x .tree z ∙ ap (λ y. run (writer t y (pen-at 0 0 0 0)) (events d)) e)) (writes-laid d w (f z));
     }
+
+-- The full reading of a source: what was parsed, and the lines.
+pub ended-is : (src t e l t₁ e₁ l₁ : List ℕ) (st : ParserRun) (n : ℕ) → Parsed src t e t₁ e₁ st → Written (line-starts src) l n l₁
+    → Ended src t e l (record { over = st .over; entries = st .run .pen .n; errors = st .errs; lines = n }) t₁ e₁ l₁
+unfolding full-reading
+ended-is src t e l t₁ e₁ l₁ st n p w = record {
+  over = p .over;
+  entries = p .tree;
+  errors = rw (p .errs) (adds-laid (parse src .errs) [] (log e 0) (log e 0) (laid-none (log e 0) (within (omega arith))));
+  lines = w;
+}

@@ -14,7 +14,7 @@ use Rattle.text.specs.declared.Counted.{Counted}
 use Rattle.table.specs.Fills.{Fills}
 use Rattle.table.proofs.Tables.{zeros}
 use Rattle.text.proofs.Refusals.{source-refused, source-passed}
-use Rattle.reading.specs.declared.Reading.{Reading}
+use Rattle.tables.specs.declared.Reading.{Reading}
 use Rattle.reading.specs.Promise.{left-by, Whole, Reads-source, body-checks, Reads-body}
 
 -- What a reading checks after its source.

@@ -1,3 +1,2 @@
 pub mod Promise
 pub mod Parsed
-pub mod Ended

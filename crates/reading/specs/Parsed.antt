@@ -2,20 +2,23 @@
 use Prim.Native.Nat.{ℕ, _≤_, _<_}
 use mathlib.Core.Path.{_≡_}
 use mathlib.Core.Bool.{false}
-use mathlib.Core.List.{List}
+use mathlib.Core.List.{List, []}
 use lib.ListN.{length, replicate}
 use Rattle.definition.specs.Tree.{entries, entry-numbers, body-concats}
+use Rattle.definition.specs.Error.{error-numbers}
 use Rattle.definition.specs.Syntax.{parse-define-body}
 use Rattle.definition.specs.Calls.{longest-source, full-reading, entries-of, too-many}
 use Rattle.theorems.specs.Height.{open-levels}
 use Rattle.theorems.specs.LeavesFrom.{leaves-from}
 use Rattle.pre.specs.Table.{class-table}
+use Rattle.table.specs.Fills.{Written}
 use Rattle.table.specs.Row.{far, page, Laid}
 use Rattle.tree.specs.Machine.{pen-at}
 use Rattle.error.specs.Log.{log, adds}
 use Rattle.parser.specs.Rest.{unread, Held}
 use Rattle.rows.specs.declared.BodyRow.{BodyRow}
 use Rattle.parser_run.specs.declared.ParserRun.{ParserRun}
+use Rattle.tables.specs.declared.Ends.{Ends}
 
 -- Where a reading begins: all leaves are left to read, and nothing was written.
 pub record Begins (src : List ℕ) (st : ParserRun) : Type 0 where
@@ -43,3 +46,10 @@ pub record Parsed (src t e t′ e′ : List ℕ) (st : ParserRun) : Type 0 where
 pub record ParsedBody (src t t′ : List ℕ) (r : BodyRow) : Type 0 where
   pub over : r .over ≡ too-many (body-concats (parse-define-body src))
   pub tree : r .over ≡ false → Laid (entry-numbers (entries 0 0 (parse-define-body src))) (page t 0) (page t′ (r .pen .n))
+
+-- The full reading was written as far as the tables go, and ended there; the errors have no lines and columns yet.
+pub record Ended (src t e l : List ℕ) (x : Ends) (t′ e′ l′ : List ℕ) : Type 0 where
+  pub over : x .over ≡ too-many (full-reading src .concats)
+  pub entries : x .over ≡ false → Laid (entries-of (full-reading src)) (page t 0) (page t′ (x .entries))
+  pub errors : Laid (error-numbers [] (full-reading src .error-list)) (page e 0) (page e′ (x .errors))
+  pub lines : Written (full-reading src .lines) l (x .lines) l′

@@ -11,7 +11,7 @@ use Rattle.theorems.specs.Refusals.{Refuses, Zeros}
 use Rattle.theorems.specs.Demand3.{Demand3}
 use Rattle.text.specs.declared.Counted.{Counted}
 use Rattle.table.specs.Fills.{Fills}
-use Rattle.reading.specs.declared.Reading.{Reading}
+use Rattle.tables.specs.declared.Reading.{Reading}
 
 -- The answer and the tables, as the definition has them.
 abbrev pub left-by : Reading → List ℕ → List ℕ → List ℕ → definition.Reading

@@ -1,22 +1,13 @@
 // Reading a source, and a define body (`Parser::parse`, `Parser::parse_define_body`).
 pub mod body;
 pub mod parse;
-pub mod tables;
 
+use tables::Reading;
 use text::Counted;
 use text::refusal::Refusal;
 use text::source;
 ghost use lib.ListN.{length};
 ghost use Rattle.reading.specs.Promise.{Reads-source, Reads-body};
-
-// The answer of a reading: the refusal number, 0 if none, and how many entries, errors and lines it wrote.
-#[repr(C)]
-pub struct Reading {
-    pub refusal: u32,
-    pub entries: u32,
-    pub errors: u32,
-    pub lines: u32,
-}
 
 // Reads a source: its entries, its errors and its lines.
 pub fn read(src: &[u8], entries: &mut [u32], errors: &mut [u32], lines: &mut [u32]) -> Reading
@@ -40,13 +31,13 @@ pub fn define_body(src: &[u8], entries: &mut [u32]) -> Counted
 {
     let refused = source::refused(src);
     if refused != Refusal::NONE {
-        return body::refused(entries, refused);
+        return tables::body::refused(entries, refused);
     }
     let row = body::write(src, entries);
     let pen = row.pen;
-    let short = body::shortage(row.over, pen.n, entries.len());
+    let short = tables::body::shortage(row.over, pen.n, entries.len());
     if short != Refusal::NONE {
-        return body::refused(entries, short);
+        return tables::body::refused(entries, short);
     }
-    body::finished(entries, pen.n)
+    tables::body::finished(entries, pen.n)
 }

@@ -1,8 +1,8 @@
 // The tree and the errors of a source, written as far as the tables go.
-use crate::tables::Ends;
 use parser_run::ParserRun;
 use pre::class;
 use syntax_kind::kind::Kind;
+use tables::Ends;
 use tree::Pen;
 use tree::level;
 use tree::level::OPEN_LEVELS;
@@ -12,8 +12,7 @@ ghost use lib.ListN.{length};
 ghost use Rattle.definition.specs.Calls.{longest-source};
 ghost use Rattle.pre.specs.Table.{class-table};
 ghost use Rattle.table.specs.Row.{far};
-ghost use Rattle.reading.specs.Parsed.{Begins, Lent, Parsed};
-ghost use Rattle.reading.specs.Ended.{Ended};
+ghost use Rattle.reading.specs.Parsed.{Begins, Lent, Parsed, Ended};
 
 // At the front of a source, with nothing written.
 fn begin(src: &[u8], classes: &[u8; 256]) -> ParserRun

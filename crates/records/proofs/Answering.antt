@@ -10,7 +10,7 @@ use Rattle.definition.specs.Calls.{Filled, Looked, looking-up, pasting, reading
 use Rattle.table.specs.Fills.{Fills, Written}
 use Rattle.text.specs.declared.Counted.{Counted}
 use Rattle.table.proofs.Parts.{part-is}
-use Rattle.reading.specs.declared.Reading.{Reading}
+use Rattle.tables.specs.declared.Reading.{Reading}
 use Rattle.reading.specs.Promise.{left-by, Reads-source}
 use Rattle.line_map.specs.Lookup.{Looks-up}
 use Rattle.line_map.specs.declared.Place.{Place}

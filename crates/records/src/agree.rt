@@ -7,7 +7,7 @@ use crate::stand::FAR;
 use crate::stand::both;
 use crate::stand::passed;
 use crate::stand::passed_bytes;
-use reading::Reading;
+use tables::Reading;
 ghost use mathlib.Core.Path.{_≡_};
 ghost use Prim.Native.Nat.{_≤_};
 ghost use Rattle.definition.specs.Calls.{reading, reading-body, listing-tokens, building-lines, unescaping, looking-up};

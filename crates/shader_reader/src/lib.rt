@@ -1,8 +1,8 @@
 // The calls as host programs in C and Rust see them. A slice passes as a pointer and a length; an answer comes back by value.
 // Each contract equates the answer, and every number of a lent table afterwards, with the call's outcome in the definition.
 use line_map::Place;
-use reading::Reading;
 use syntax_kind::paste::Pasted;
+use tables::Reading;
 use text::Counted;
 ghost use lib.ListN.{length};
 ghost use Rattle.definition.specs.Calls.{listing-tokens, building-lines, unescaping, looking-up, pasting};

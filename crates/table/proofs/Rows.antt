@@ -7,11 +7,9 @@ use mathlib.Core.Path.{_≡_, refl, ap, sym, _∙_}
 use mathlib.Core.Bool.{true, false}
 use mathlib.Core.List.{List, [], _∷_, _++_, flatMap, append-assoc, append-nil}
 use borrow.Author.Tests.{le-leb, lt-leb}
-use lib.ListN.{length, set, length-set, length-append, length-replicate}
+use lib.ListN.{length, set, length-set, length-append}
 use lib.Seq.{sets, length-sets}
-use Rattle.definition.specs.Calls.{padded}
 use Rattle.table.specs.Row.{far, Page, page, fits, put, Stands, within, past, Laid}
-use Rattle.table.proofs.Tables.{zeros, written-padded}
 use Rattle.table.proofs.Sets.{sets-set, set-sets, sets-append}
 
 -- A table has room for so many numbers at n, or not.
@@ -179,11 +177,3 @@ module _ (numbers t : List ℕ) (q : Page) (k : Laid numbers (page t 0) q) where
 
   pub fits-unless-far : length t ≤ far → (q .n ≡ far → ⊥) → length numbers ≤ length t
   fits-unless-far b d = elim (decLe (length numbers) (length t)) [ yes h ↦ h | no h ↦ absurd (d (front-lost b (omega arith))) ]
-
--- Into zeros.
-module _ (numbers : List ℕ) (room : ℕ) (q : Page) (k : Laid numbers (page (zeros room) 0) q) where
-  pub zeros-whole : length numbers ≤ room → q ≡ page (padded numbers room) (length numbers)
-  zeros-whole h = front-whole numbers (zeros room) q k (rw (length-replicate {A = ℕ} room 0) h) ∙ rw (written-padded numbers room h)
-
-  pub zeros-lost : room ≤ far → room < length numbers → q .n ≡ far
-  zeros-lost b h = front-lost numbers (zeros room) q k (rw (length-replicate {A = ℕ} room 0) b) (rw (length-replicate {A = ℕ} room 0) h)

@@ -8,17 +8,10 @@ use native.Mathlib.Omega.{arith}
 use lib.ListN.{length, take, drop, length-append}
 use lib.Seq.{slice, take-nil, drop-drop, take-append-seam, drop-append-seam}
 use lib.Dec.{eqb}
-use Rattle.definition.specs.Tree.{Leaf, long, bytes, Forest, nil, leaf, node, _▹_, leaves, size, Entry, Form, leaf-entry, node-entry, entries, entry-numbers}
+use Rattle.definition.specs.Tree.{Leaf, long, bytes, Forest, nil, leaf, node, leaves, size, Entry, Form, entries, entry-numbers}
 use Rattle.theorems.proofs.Tiling.Leaves.{bytes-append}
 use Rattle.theorems.specs.Placed.{Placed}
 use Rattle.theorems.specs.Demand3.{entries-in, leaf-entries, leaf-of, Follow}
-
--- Appending.
-pub size-▹ : (f g : Forest) → size (f ▹ g) ≡ size f + size g
-unfolding size _▹_
-size-▹ nil g = omega arith
-size-▹ (leaf t f) g = let h = size-▹ f g in omega arith
-size-▹ (node k c f) g = let h = size-▹ f g in omega arith
 
 -- A row of trees has the bytes of its leaves.
 pub size-leaves : (f : Forest) → size f ≡ length (bytes (leaves f))
@@ -27,27 +20,6 @@ size-leaves nil = refl
 size-leaves (leaf t f) = ap (λ n. long t + n) (size-leaves f) ∙ sym (length-append (t .bytes) (bytes (leaves f)))
 size-leaves (node k c f) =
     rw (size-leaves c, size-leaves f) (sym (length-append (bytes (leaves c)) (bytes (leaves f)))) ∙ ap length (sym (bytes-append (leaves c) (leaves f)))
-
-pub entries-▹ : (l a : ℕ) (f g : Forest) → entries l a (f ▹ g) ≡ entries l a f ++ entries l (a + size f) g
-unfolding entries size _▹_
-entries-▹ l a nil g = rw (add-zero a) refl
-entries-▹ l a (leaf t f) g = ap (λ e. leaf-entry (t .kind) l a (a + long t) ∷ e)
-    (entries-▹ l (a + long t) f g ∙ ap (λ x. entries l (a + long t) f ++ entries l x g) (add-assoc a (long t) (size f)))
-entries-▹ l a (node k c f) g = ap (λ e. node-entry k l a (a + size c) ∷ e)
-    (rw (entries-▹ l (a + size c) f g, add-assoc a (size c) (size f))
-    (sym (append-assoc (entries (l + 1) a c) (entries l (a + size c) f) (entries l (a + (size c + size f)) g))))
-
--- Wrapping: one level deeper, every entry's level is one more.
-unfoldable pub deeper : Entry → Entry
-deeper e = record { form = e .form; kind = e .kind; level = e .level + 1; start = e .start; end = e .end }
-
-pub entries-deeper : (l a : ℕ) (f : Forest) → entries (l + 1) a f ≡ map deeper (entries l a f)
-unfolding entries deeper
-entries-deeper l a nil = refl
-entries-deeper l a (leaf t f) = ap (λ e. leaf-entry (t .kind) (l + 1) a (a + long t) ∷ e) (entries-deeper l (a + long t) f)
-entries-deeper l a (node k c f) = ap (λ e. node-entry k (l + 1) a (a + size c) ∷ e)
-    (rw (entries-deeper (l + 1) a c, entries-deeper l (a + size c) f)
-    (sym (map-append deeper (entries (l + 1) a c) (entries l (a + size c) f))))
 
 -- The numbers of entries give the entries back, whatever follows them.
 pub entries-back : (es : List Entry) (zs : List ℕ) → entries-in (length es) (entry-numbers es ++ zs) ≡ es
@@ -65,11 +37,6 @@ leaf-entries-++ (e ∷ a) b = go (eqb (e .form) Form.leaf) refl (leaf-entries-++
         → leaf-entries ((e ∷ a) ++ b) ≡ leaf-entries (e ∷ a) ++ leaf-entries b
     go true q ih = rw (q, leaf-entries) (ap (λ l. e ∷ l) ih)
     go false q ih = rw (q, leaf-entries) ih
-
-pub leaf-entries-node : (l a k : ℕ) (c f : Forest)
-    → leaf-entries (entries l a (node k c f)) ≡ leaf-entries (entries (l + 1) a c) ++ leaf-entries (entries l (a + size c) f)
-unfolding entries leaf-entries
-leaf-entries-node l a k c f = leaf-entries-++ (entries (l + 1) a c) (entries l (a + size c) f)
 
 -- Entries that follow one another from a to b.
 unfoldable pub Chain : ℕ → List Entry → ℕ → Type 0

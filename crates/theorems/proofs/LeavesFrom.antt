@@ -3,7 +3,7 @@ use Prim.Native.Nat.{ℕ, _+_, _≤_}
 use mathlib.Core.Path.{_≡_, refl, ap, sym, _∙_}
 use mathlib.Core.Bool.{Bool, true, false}
 use mathlib.Core.List.{List, [], _∷_, _++_}
-use lib.ListN.{length, take, drop, length-drop}
+use lib.ListN.{length, take, drop}
 use lib.Seq.{slice, take-append-seam}
 use native.Mathlib.Omega.{arith}
 use Rattle.definition.specs.SyntaxKind.{Kind}
@@ -61,11 +61,6 @@ module _ (s : List ℕ) (at : ℕ) (f : Bool) where
   pub leaves-lies : Placed at (leaves-from s at f)
   unfolding leaves-from
   leaves-lies = placed-lies at (tokens f (drop at s))
-
-  -- Where nothing is left the source is at its end.
-  pub leaves-none : leaves-from s at f ≡ [] → length s ≤ at
-  unfolding bytes
-  leaves-none h = omega (arith, length-drop at s, ap length (sym leaves-bytes ∙ ap bytes h))
 
 -- Leaves of tokens, lexed again with an angle string expected.
 relexed-placed : (at : ℕ) (ts : List Token) → relexed (placed at ts) ≡ placed at (tokens true (joined ts))

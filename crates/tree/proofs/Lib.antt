@@ -3,5 +3,5 @@ pub mod Steps
 pub mod Runs
 pub mod Writes
 pub mod LentTail
-pub mod Cleared
+pub mod Front
 pub mod Places

@@ -3,7 +3,7 @@ use Prim.Native.Nat.{ℕ, _+_, _-_, _≤_, _<_}
 use mathlib.Core.Path.{_≡_, refl, ap, _∙_}
 use mathlib.Core.List.{List}
 use native.Mathlib.Omega.{arith}
-use lib.ListN.{length, set, length-set}
+use lib.ListN.{length, set}
 use Rattle.definition.specs.Tree.{Entry, Width, entry-numbers, node-entry}
 use Rattle.table.specs.Row.{far, Page, page}
 use Rattle.table.proofs.Rows.{Room, inside, outside, room?, fits-in, fits-out, put-out, length-put, puts, length-puts, puts-far, set-later}
@@ -18,13 +18,6 @@ module _ (t : List ℕ) (n k z : ℕ) where
   pub patched-out : length t - n < Width.entry → patched t n k z ≡ t
   unfolding patched
   patched-out h = rw (fits-out Width.entry t n h)
-
-  pub length-patched : length (patched t n k z) ≡ length t
-  length-patched = go (room? Width.entry t n)
-    where
-      go : Room Width.entry t n → length (patched t n k z) ≡ length t
-      go (inside h) = rw (patched-in h) (simp length-set)
-      go (outside h) = rw (patched-out h) refl
 
 -- Behind later entries, room or not.
 module _ (t : List ℕ) (n k l a z : ℕ) (es : List Entry) (b : length t ≤ far) where

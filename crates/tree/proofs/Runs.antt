@@ -1,14 +1,11 @@
--- Runs one after the other: the events of rows of trees that are made of others, and what every run keeps.
+-- Runs one after the other: the events of rows of trees that are made of others.
 use Prim.Native.Nat.{ℕ}
 use mathlib.Core.Path.{_≡_, refl, ap, sym, _∙_}
 use mathlib.Core.List.{List, [], _∷_, _++_, append-assoc}
-use lib.ListN.{length}
 use Rattle.definition.specs.Tree.{Forest, nil, leaf, node, _▹_, row}
 use Rattle.definition.specs.Tree as tree
 use Rattle.definition.specs.Syntax.{last-stop}
-use Rattle.table.proofs.Rows.{length-put}
-use Rattle.tree.specs.Machine.{Event, Open, Shut, Leaf, leaf-event, events, numbers, open-entry, Sheet, Writer, with-levels, leafed, leafs, step, run}
-use Rattle.tree.proofs.Patch.{length-patched}
+use Rattle.tree.specs.Machine.{Event, Open, Shut, Leaf, leaf-event, events, Sheet, Writer, with-levels, leafed, leafs, step, run}
 
 pub run-++ : (w : Writer) (a b : List Event) → run w (a ++ b) ≡ run (run w a) b
 unfolding run
@@ -37,10 +34,6 @@ pub leaf-step : (k a b : ℕ) (s s′ : Sheet) (o : List ℕ) → s′ ≡ leafe
 unfolding step
 leaf-step k a b s s′ o e = ap (with-levels o) e
 
-pub run-leaf : (w : Writer) (t : tree.Leaf) (f : Forest) → run w (events (leaf t f)) ≡ run (step (leaf-event t) w) (events f)
-unfolding run events
-run-leaf w t f = refl
-
 pub run-row : (o : List ℕ) (s : Sheet) (ts : List tree.Leaf) → run (with-levels o s) (events (row ts)) ≡ with-levels o (leafs s ts)
 unfolding run events row step leafs
 run-row o s [] = refl
@@ -51,27 +44,3 @@ pub leafs-pos : (s : Sheet) (ts : List tree.Leaf) → leafs s ts .pen .pos ≡ l
 unfolding leafs leafed last-stop
 leafs-pos s [] = refl
 leafs-pos s (t ∷ ts) = leafs-pos (leafed (t .kind) (t .start) (tree.stop t) s) ts
-
--- The length of the table.
-length-step : (e : Event) (w : Writer) → length (step e w .table) ≡ length (w .table)
-unfolding step leafed
-length-step Open w = length-put (numbers (open-entry (w .pen .depth) (w .pen .pos))) (w .table) (w .pen .n)
-length-step (Shut k) w = length-patched (w .table) _ k (w .pen .pos)
-length-step (Leaf k a b) w = length-put _ (w .table) (w .pen .n)
-
-pub length-run : (w : Writer) (es : List Event) → length (run w es .table) ≡ length (w .table)
-unfolding run
-length-run w [] = refl
-length-run w (e ∷ es) = length-run (step e w) es ∙ length-step e w
-
--- How many numbers lie before the part that is written into.
-step-base : (e : Event) (w : Writer) → step e w .pen .base ≡ w .pen .base
-unfolding step leafed
-step-base Open w = refl
-step-base (Shut k) w = refl
-step-base (Leaf k a b) w = refl
-
-pub run-base : (w : Writer) (es : List Event) → run w es .pen .base ≡ w .pen .base
-unfolding run
-run-base w [] = refl
-run-base w (e ∷ es) = run-base (step e w) es ∙ step-base e w

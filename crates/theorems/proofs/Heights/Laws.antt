@@ -20,19 +20,6 @@ pub height-node : (k : ℕ) (c f : Forest) → height (node k c f) ≡ max (suc 
 unfolding height
 height-node k c f = refl
 
-pub height-row : (ts : List Leaf) → height (row ts) ≡ 0
-unfolding height row
-height-row [] = refl
-height-row (t ∷ ts) = height-row ts
-
--- Bounds, as readers put them together.
-pub both-low : (n : ℕ) (f g : Forest) → height f ≤ n → height g ≤ n → height (f ▹ g) ≤ n
-both-low n f g a b = omega (arith, height-▹ f g)
-
-pub node-low : (n k : ℕ) (c : Forest) → height c ≤ n → height (node k c nil) ≤ suc n
-unfolding height
-node-low n k c h = omega arith
-
 -- The ## of bodies: those inside a node, and those of two rows.
 inside : ℕ → Forest → List ℕ
 inside k c = elim (body-kind k) [ true ↦ concat-ops (leaves c) ∷ [] | false ↦ body-concats c ]

@@ -1,10 +1,8 @@
 -- Steady readers take their leaves as they are, and read them the same again; the laws of the combinators.
-use Prim.Native.Nat.{ℕ, _≤_}
+use Prim.Native.Nat.{ℕ}
 use mathlib.Core.Path.{_≡_, refl, ap, _∙_, subst}
 use mathlib.Core.Bool.{Bool, true, false}
 use mathlib.Core.List.{List, [], _∷_, _++_, append-assoc, append-nil}
-use lib.ListN.{length, length-append}
-use native.Mathlib.Omega.{arith}
 use Rattle.definition.specs.Tree.{Leaf, Forest, nil, leaf, node, _▹_, leaves, row}
 use Rattle.definition.specs.Error.{Err}
 use Rattle.definition.specs.Parser.{trivia, while, after, peek, Got, raise, Reader, _then_, wrap, skip, skip-trivia, nothing, bump, maybe}
@@ -70,10 +68,6 @@ pub record Steady-at (p : Reader) (ts : List Leaf) : Type 0 where
 
 abbrev pub Steady : Reader → Type 0
 Steady p = (ts : List Leaf) → Steady-at p ts
-
--- A steady reader leaves no more leaves than it was given.
-pub no-more-left : (p : Reader) (ts : List Leaf) → Steady-at p ts → length (p ts .rest) ≤ length ts
-no-more-left p ts s = omega (arith, simp length-append at (ap length (s .same)))
 
 -- One reader and then the next.
 pub again-then : (p p′ q q′ : Reader) (ts : List Leaf)

@@ -13,7 +13,7 @@ use Rattle.definition.specs.Parser.{Got, Reader, _then_}
 use Rattle.definition.specs.Syntax.{relexed}
 use Rattle.theorems.specs.Placed.{Placed}
 use Rattle.theorems.proofs.Lexing.Tokens.{joined-tokens}
-use Rattle.theorems.proofs.Tiling.Leaves.{leaves-▹, bytes-append}
+use Rattle.theorems.proofs.Tiling.Leaves.{leaves-▹}
 use Rattle.theorems.proofs.Tiling.Steady.{Steady-at, pushing}
 
 -- One row of leaves in another's place: the same bytes, and it lies wherever the other lies.
@@ -84,7 +84,3 @@ pub few : (a : ℕ) (ts : List Leaf) → Placed a ts → length ts ≤ length (b
 unfolding Placed bytes
 few a [] h = omega arith
 few a (t ∷ ts) h = rw (length-append (t .bytes) (bytes ts)) (omega (arith, h .1, few (a + long t) ts (h .2)))
-
--- A reading that tiles leaves no more bytes than it was given.
-pub no-more-bytes : (g : Got) (ts : List Leaf) → Tiles g ts → length (bytes (g .rest)) ≤ length (bytes ts)
-no-more-bytes g ts h = omega (arith, simp (bytes-append, length-append) at (ap length (h .joins)))

@@ -1,6 +1,6 @@
 -- `write` writes the full reading, as far as the tables go.
 use Rattle.text.proofs.Cases.{cases}
-use Rattle.reading.proofs.Ending.{ended-is}
+use Rattle.reading.proofs.Parsing.{ended-is}
 use Rattle.reading.proofs.parse.write.Statement.{statement}
 use Rattle.reading.proofs.parse.write.Tie as tie
 

@@ -1,11 +1,21 @@
 // The tables of a reading as it leaves them: cleared if it is refused, else cleared behind their last numbers.
-use crate::Reading;
+pub mod body;
+
 use text::refusal::Refusal;
 ghost use mathlib.Core.Path.{_≡_};
 ghost use Prim.Native.Nat.{_≤_};
 ghost use lib.ListN.{length};
 ghost use Rattle.definition.specs.Calls.{refusal};
-ghost use Rattle.reading.specs.Ended.{ended-checks, Refused, cleared-behind, Fit, Finished};
+ghost use Rattle.tables.specs.Decided.{ended-checks, Refused, cleared-behind, Fit, Finished};
+
+// The answer of a reading: the refusal number, 0 if none, and how many entries, errors and lines it wrote.
+#[repr(C)]
+pub struct Reading {
+    pub refusal: u32,
+    pub entries: u32,
+    pub errors: u32,
+    pub lines: u32,
+}
 
 // How many numbers an entry has.
 pub const ENTRY: usize = 5;

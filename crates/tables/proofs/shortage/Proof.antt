@@ -1,8 +1,8 @@
 -- `shortage` finds the first refusal behind the source.
 use Rattle.text.proofs.Cases.{cases}
-use Rattle.reading.proofs.Ending.{ended-over, ended-entries, ended-errors, ended-lines, ended-well}
-use Rattle.reading.proofs.tables.shortage.Statement.{statement}
-use Rattle.reading.proofs.tables.shortage.Tie as tie
+use Rattle.tables.proofs.Ending.{ended-over, ended-entries, ended-errors, ended-lines, ended-well}
+use Rattle.tables.proofs.shortage.Statement.{statement}
+use Rattle.tables.proofs.shortage.Tie as tie
 
 pub shortage-spec : {M : Type 1} → statement M
 shortage-spec = tie.close (tie.spec

@@ -1,8 +1,8 @@
 -- `clear_behind` clears the rest of a table.
 use Rattle.text.proofs.Cases.{cases}
-use Rattle.reading.proofs.Ending.{cleared-part}
-use Rattle.reading.proofs.tables.clear_behind.Statement.{statement}
-use Rattle.reading.proofs.tables.clear_behind.Tie as tie
+use Rattle.tables.proofs.Ending.{cleared-part}
+use Rattle.tables.proofs.clear_behind.Statement.{statement}
+use Rattle.tables.proofs.clear_behind.Tie as tie
 
 pub clear-behind-spec : {M : Type 1} → statement M
 clear-behind-spec = tie.close (tie.spec

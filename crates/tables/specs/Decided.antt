@@ -1,26 +1,16 @@
 -- What is decided where a reading ended: that it is refused, or that it is finished.
 use Prim.Native.Nat.{ℕ, _/_, _≤_, _<_}
 use mathlib.Core.Path.{_≡_}
-use mathlib.Core.Bool.{Bool, false}
+use mathlib.Core.Bool.{Bool}
 use mathlib.Core.List.{List, [], _∷_}
 use lib.Dec.{ltb}
 use lib.ListN.{length, take, replicate}
 use Rattle.definition.specs.Tree.{Width}
-use Rattle.definition.specs.Error.{error-numbers}
-use Rattle.definition.specs.Calls.{Check, Refusal, full-reading, entries-of, padded, too-many}
+use Rattle.definition.specs.Calls.{Check, Refusal, padded}
 use Rattle.text.specs.declared.Counted.{Counted}
-use Rattle.table.specs.Fills.{Written}
-use Rattle.table.specs.Row.{page, Laid}
 use Rattle.error.specs.Lines.{Starts, resolved}
-use Rattle.reading.specs.declared.Reading.{Reading}
-use Rattle.reading.specs.declared.tables.Ends.{Ends}
-
--- The full reading was written as far as the tables go, and ended there; the errors have no lines and columns yet.
-pub record Ended (src t e l : List ℕ) (x : Ends) (t′ e′ l′ : List ℕ) : Type 0 where
-  pub over : x .over ≡ too-many (full-reading src .concats)
-  pub entries : x .over ≡ false → Laid (entries-of (full-reading src)) (page t 0) (page t′ (x .entries))
-  pub errors : Laid (error-numbers [] (full-reading src .error-list)) (page e 0) (page e′ (x .errors))
-  pub lines : Written (full-reading src .lines) l (x .lines) l′
+use Rattle.tables.specs.declared.Reading.{Reading}
+use Rattle.tables.specs.declared.Ends.{Ends}
 
 -- What is checked behind the source, with tables of these lengths.
 abbrev pub ended-checks : Ends → ℕ → ℕ → ℕ → List Check
