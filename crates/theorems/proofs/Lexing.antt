@@ -7,7 +7,6 @@ pub mod Open
 pub mod PreAt
 pub mod Runs
 pub mod Sorts
-pub mod Step
 pub mod Texts
 pub mod Tokens
 pub mod Unescapes

@@ -53,8 +53,3 @@ number (some k) = k
 
 unfoldable pub glued-kind : ℕ → ℕ → ℕ
 glued-kind a b = number (glued glues a b)
-
--- The tokens after the first are those of the bytes after it.
-abbrev pub Step : List ℕ → List Token → Type 0
-Step bs [] = Unit {0}
-Step bs (t ∷ ts) = (g : Bool) × (ts ≡ tokens g (drop (length (text t)) bs))
