@@ -6,9 +6,9 @@ use Rattle.text.proofs.Cases.{cases}
 use Rattle.parser.specs.Rest.{unread}
 use Rattle.parser_run.specs.Reads.{stand}
 use Rattle.parser_run.proofs.Parts.{ready, ready-took}
-use Rattle.directives.proofs.Listing.{Listing, list-start, list-end, list-more, list-fewer}
-use Rattle.directives.proofs.args.args.Statement.{statement}
-use Rattle.directives.proofs.args.args.Tie as tie
+use Rattle.args.proofs.Listing.{Listing, list-start, list-end, list-more, list-fewer}
+use Rattle.args.proofs.args.Statement.{statement}
+use Rattle.args.proofs.args.Tie as tie
 
 abbrev Inv-loop : tie.InvT-loop
 Inv-loop src classes table₀ levels₀ errors₀ held₀ first₀ bad₀ table levels errors held first bad = Listing src first bad (stand table levels errors held) (stand table₀ levels₀ errors₀ held₀)

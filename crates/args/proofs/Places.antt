@@ -20,9 +20,8 @@ use Rattle.parser_run.specs.declared.ParserRun.{ParserRun}
 use Rattle.parser_run.specs.Reads.{stand, Quiet}
 use Rattle.parser_run.specs.Expects.{either, missed, expect-any, Expects}
 use Rattle.parser_run.proofs.Laws.{reads-is, bump-rowed}
-use Rattle.parser_run.proofs.Parts.{is-tested, seen-tested, inline-errs}
-use Rattle.directives.specs.Args.{dirty, opening, closing, place, Lists}
-use Rattle.directives.proofs.Parts.{any-leaf}
+use Rattle.parser_run.proofs.Parts.{any-leaf, is-tested, seen-tested, inline-errs}
+use Rattle.args.specs.Args.{dirty, opening, closing, place, Lists}
 
 -- A leaf that neither is trivia nor ends the list,
 args-more : (n : ℕ) (f : Bool) (t : Leaf) (ts : List Leaf) → trivia t ≡ false → is Kind.RPAREN t ≡ false → newline-leaf t ≡ false

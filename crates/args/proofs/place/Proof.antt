@@ -2,9 +2,9 @@
 use mathlib.Core.Path.{refl}
 use borrow.Author.Needs.{needs}
 use Rattle.text.proofs.Cases.{cases}
-use Rattle.directives.proofs.Places.{place-node, place-any}
-use Rattle.directives.proofs.args.place.Statement.{statement}
-use Rattle.directives.proofs.args.place.Tie as tie
+use Rattle.args.proofs.Places.{place-node, place-any}
+use Rattle.args.proofs.place.Statement.{statement}
+use Rattle.args.proofs.place.Tie as tie
 
 pub place-spec : {M : Type 1} → statement M
 place-spec = tie.close (tie.spec

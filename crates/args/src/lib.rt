@@ -8,7 +8,7 @@ ghost use lib.ListN.{length};
 ghost use Rattle.definition.specs.Syntax.{wanted, args, define-args};
 ghost use Rattle.parser.specs.Rest.{Reading};
 ghost use Rattle.parser_run.specs.Reads.{stand, Reads};
-ghost use Rattle.directives.specs.Args.{opening, closing, place, Lists};
+ghost use Rattle.args.specs.Args.{opening, closing, place, Lists};
 
 // What an argument list waits for beside RPAREN: an identifier, or else a comma.
 fn wanted(first: bool) -> u8
@@ -102,7 +102,7 @@ fn args(
         let a = parser_run::skip_trivia(src, classes, table, held);
         let x = parser_run::peek(a);
         let r = place(src, classes, table, levels, errors, a, first);
-        bad = crate::worse(bad, r.bad);
+        bad = parser_run::worse(bad, r.bad);
         held = r.state;
         if closes(x.kind) {
             return Listed { state: held, bad };

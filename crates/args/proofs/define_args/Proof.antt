@@ -3,9 +3,9 @@ use native.Mathlib.Omega.{arith}
 use borrow.Author.Needs.{needs}
 use Rattle.text.proofs.Cases.{cases}
 use Rattle.parser_run.proofs.Parts.{ready-took, ready-moved}
-use Rattle.directives.proofs.Listing.{define-bad, define-good}
-use Rattle.directives.proofs.args.define_args.Statement.{statement}
-use Rattle.directives.proofs.args.define_args.Tie as tie
+use Rattle.args.proofs.Listing.{define-bad, define-good}
+use Rattle.args.proofs.define_args.Statement.{statement}
+use Rattle.args.proofs.define_args.Tie as tie
 
 pub define-args-spec : {M : Type 1} → statement M
 define-args-spec = tie.close (tie.spec

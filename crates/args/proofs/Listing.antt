@@ -24,8 +24,8 @@ use Rattle.parser.proofs.Taking.{one-seen}
 use Rattle.parser_run.specs.declared.ParserRun.{ParserRun}
 use Rattle.parser_run.specs.Reads.{Stand, stand, unread-at, Reads, Took, Moves}
 use Rattle.parser_run.proofs.Laws.{reads-is, reads-then, reads-wrap, bump-rowed, Toward, begun, toward-then, toward-end}
-use Rattle.directives.specs.Args.{dirty, closing, place, Lists}
-use Rattle.directives.proofs.Places.{args-goes, args-stops, place-rest}
+use Rattle.args.specs.Args.{dirty, closing, place, Lists}
+use Rattle.args.proofs.Places.{args-goes, args-stops, place-rest}
 
 -- Whether two readings meet an error.
 dirty-then : (p q : Reader) (ts : List Leaf) → dirty ((p then q) ts) ≡ (dirty (p ts) || dirty (q (p ts .rest)))
