@@ -1,4 +1,2 @@
 pub mod Parts
-pub mod Places
-pub mod Listing
 pub mod Bodies

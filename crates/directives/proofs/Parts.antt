@@ -1,16 +1,15 @@
 -- The directives, made of their parts.
 use Prim.Native.Nat.{ℕ}
 use mathlib.Core.Path.{_≡_, refl, sym, _∙_}
-use mathlib.Core.Bool.{Bool, true, false, _||_, false≢true, or-false}
+use mathlib.Core.Bool.{Bool, true, false, _||_, or-false}
 use mathlib.Core.List.{List, [], _∷_}
-use borrow.Author.Tests.{ne-eqb, eqb-true}
+use borrow.Author.Tests.{ne-eqb}
 use lib.Dec.{eqb}
 use native.Mathlib.Omega.{arith}
 use lib.ListN.{length}
-use Rattle.definition.specs.Text.{if_then_else_, Kind}
+use Rattle.definition.specs.Text.{Kind}
 use Rattle.definition.specs.Tree.{Leaf}
-use Rattle.definition.specs.Error.{unexpected}
-use Rattle.definition.specs.Parser.{is, newline-leaf, peek, push, raise, Reader, _then_, wrap, skip-trivia, nothing, bump, maybe}
+use Rattle.definition.specs.Parser.{is, peek, Reader, _then_, wrap, skip-trivia, nothing, bump, maybe}
 use Rattle.definition.specs.Syntax.{pp-body, define-args, pp-define, pp-version, pp-extension, colon}
 use Rattle.theorems.proofs.Combinators.{then-assoc}
 use Rattle.theorems.proofs.Grammar.Clean.{or-left}
@@ -19,9 +18,9 @@ use Rattle.parser.specs.Rest.{leaf-seen, unread}
 use Rattle.parser.proofs.Taking.{one-seen, passed-some, peeked}
 use Rattle.parser_run.specs.declared.ParserRun.{ParserRun}
 use Rattle.parser_run.specs.Reads.{Stand, stand, Reads, Quiet, Took}
-use Rattle.parser_run.specs.Expects.{kinds, either, passes, missed, expect-any, Expects}
+use Rattle.parser_run.specs.Expects.{either, passes, missed, expect-any, Expects}
 use Rattle.parser_run.proofs.Laws.{reads-is, reads-then}
-use Rattle.parser_run.proofs.Parts.{either-tested, maybe-here, maybe-other}
+use Rattle.parser_run.proofs.Parts.{any-leaf, either-tested, maybe-here, maybe-other}
 use Rattle.directives.specs.Next.{expect-next, expect-node, define-head}
 
 -- `version`.
@@ -37,27 +36,6 @@ module _ {src t o e t₁ o₁ e₁ t₂ : List ℕ} {st st₁ st₂ : ParserRun}
 
   pub version-none : (s .kind ≡ Kind.IDENT_KW → ⊥) → Reads src (pp-version (length src)) (stand t o e st) (stand t₂ o₁ e₁ st₂)
   version-none i = version-by (maybe-other q (wrap Kind.PP_VERSION_PROFILE bump) (λ w. absurd (omega arith)) i (y .reads o₁ e₁ .gives .held))
-
--- `expect_any` at a leaf, where no NEWLINE is expected.
-module _ (n a b : ℕ) (i : eqb Kind.NEWLINE a ≡ false) (j : eqb Kind.NEWLINE b ≡ false) where
-  no-newline : (t : Leaf) → either a b t ≡ true → newline-leaf t ≡ false
-  no-newline t e = go (newline-leaf t) refl
-    where
-      go : (z : Bool) → newline-leaf t ≡ z → newline-leaf t ≡ false
-      go true q = let k : t .kind ≡ Kind.NEWLINE = eqb-true (t .kind) Kind.NEWLINE q in absurd (false≢true (rw (k, i, j) at e))
-      go false q = q
-
-  pub any-leaf : (t : Leaf) (ts : List Leaf) → expect-any n a b (t ∷ ts)
-      ≡ (if either a b t then push t (nothing ts) else raise (unexpected t (kinds a b)) (if newline-leaf t then nothing (t ∷ ts) else push t (nothing ts)))
-  unfolding expect-any maybe bump nothing peek missed
-  any-leaf t ts = go (either a b t) refl (newline-leaf t) refl
-    where
-      go : (y : Bool) → either a b t ≡ y → (z : Bool) → newline-leaf t ≡ z → expect-any n a b (t ∷ ts)
-          ≡ (if either a b t then push t (nothing ts) else raise (unexpected t (kinds a b)) (if newline-leaf t then nothing (t ∷ ts) else push t (nothing ts)))
-      go true e true w = absurd (false≢true (sym (no-newline t e) ∙ w))
-      go true e false w = rw (e, w, expect-any, maybe) refl
-      go false e true w = rw (e, w, expect-any, maybe) refl
-      go false e false w = rw (e, w, expect-any, maybe) refl
 
 -- `extension`: the colon that is found, and the one that is missing.
 module _ (n : ℕ) (r : Reader) where

@@ -40,7 +40,7 @@ pub fn pp_body(
     ParserRun {
         run,
         errs: state.errs,
-        over: crate::worse(state.over, b.over),
+        over: parser_run::worse(state.over, b.over),
     }
 }
 

@@ -1,5 +1,4 @@
 // `define` (`pp_define` of `syntax.rs`).
-use crate::args;
 use crate::body;
 use parser_run::ParserRun;
 use syntax_kind::kind::Kind;

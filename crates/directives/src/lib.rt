@@ -1,5 +1,4 @@
 // The directives, each from behind its word (`syntax.rs`).
-pub mod args;
 pub mod body;
 pub mod define;
 pub mod rest;
@@ -8,23 +7,13 @@ use parser_run::ParserRun;
 use syntax_kind::kind::Kind;
 use tree::level::OPEN_LEVELS;
 ghost use mathlib.Core.Path.{_≡_};
-ghost use mathlib.Core.Bool.{false, _||_};
+ghost use mathlib.Core.Bool.{false};
 ghost use lib.ListN.{length};
 ghost use Rattle.definition.specs.Tree.{body-kind};
 ghost use Rattle.definition.specs.Syntax.{pp-if-ident, pp-version, pp-extension};
 ghost use Rattle.parser.specs.Rest.{Reading};
 ghost use Rattle.parser_run.specs.Reads.{stand, Reads};
 ghost use Rattle.directives.specs.Next.{expect-next, expect-node};
-
-// Whether something went wrong before, or does now.
-fn worse(before: bool, now: bool) -> bool
-    ensures { λ r. ⌜ r ≡ (before || now) ⌝ }
-{
-    if before {
-        return true;
-    }
-    now
-}
 
 // Trivia, and a leaf of kind k.
 fn expect_next(

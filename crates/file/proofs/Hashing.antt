@@ -19,7 +19,7 @@ use Rattle.parser.proofs.Taking.{none-seen}
 use Rattle.parser_run.specs.declared.ParserRun.{ParserRun}
 use Rattle.parser_run.specs.Reads.{with-run, Stand, stand, Reads}
 use Rattle.parser_run.proofs.Laws.{reads-is}
-use Rattle.syntax.specs.Line.{hash-reader}
+use Rattle.syntax.specs.Item.{hash-reader}
 use Rattle.syntax.specs.Section.{Hashed}
 use Rattle.file.specs.Ground.{Grounded}
 use Rattle.file.specs.Advance.{Fitting, Advances}

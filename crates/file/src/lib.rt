@@ -7,7 +7,7 @@ ghost use mathlib.Core.Path.{_≡_};
 ghost use lib.ListN.{length};
 ghost use Rattle.parser.specs.Rest.{Reading};
 ghost use Rattle.parser_run.specs.Reads.{stand, Reads};
-ghost use Rattle.syntax.specs.Line.{hash-reader};
+ghost use Rattle.syntax.specs.Item.{hash-reader};
 ghost use Rattle.syntax.specs.Section.{Hashed};
 ghost use Rattle.file.specs.Ground.{Grounded};
 ghost use Rattle.file.specs.Advance.{begins-text, items-of, Advances};

@@ -8,7 +8,8 @@ use lib.Dec.{eqb}
 use lib.ListN.{length, getD}
 use Rattle.definition.specs.Text.{if_then_else_, Kind}
 use Rattle.definition.specs.Tree.{Leaf, body-kind}
-use Rattle.definition.specs.Parser.{is, inline, peek, raise, Reader, wrap, nothing, bump, maybe, expect-one}
+use Rattle.definition.specs.Error.{unexpected}
+use Rattle.definition.specs.Parser.{is, newline-leaf, inline, peek, push, raise, Reader, wrap, nothing, bump, maybe, expect-one}
 use Rattle.theorems.specs.BodyRows.{ends}
 use Rattle.tree.specs.Machine.{Event, Open, Shut}
 use Rattle.error.specs.Log.{fault-of}
@@ -86,6 +87,27 @@ one-missed : (n k : ℕ) (ts : List Leaf) → peek (is k) ts ≡ false → expec
 unfolding expect-one bump missed wrap peek
 one-missed n k [] e = refl
 one-missed n k (t ∷ ts) e = rw e refl
+
+-- `expect_any` at a leaf, where no NEWLINE is expected.
+module _ (n a b : ℕ) (i : eqb Kind.NEWLINE a ≡ false) (j : eqb Kind.NEWLINE b ≡ false) where
+  no-newline : (t : Leaf) → either a b t ≡ true → newline-leaf t ≡ false
+  no-newline t e = go (newline-leaf t) refl
+    where
+      go : (z : Bool) → newline-leaf t ≡ z → newline-leaf t ≡ false
+      go true q = let k : t .kind ≡ Kind.NEWLINE = eqb-true (t .kind) Kind.NEWLINE q in absurd (false≢true (rw (k, i, j) at e))
+      go false q = q
+
+  pub any-leaf : (t : Leaf) (ts : List Leaf) → expect-any n a b (t ∷ ts)
+      ≡ (if either a b t then push t (nothing ts) else raise (unexpected t (kinds a b)) (if newline-leaf t then nothing (t ∷ ts) else push t (nothing ts)))
+  unfolding expect-any maybe bump nothing peek missed
+  any-leaf t ts = go (either a b t) refl (newline-leaf t) refl
+    where
+      go : (y : Bool) → either a b t ≡ y → (z : Bool) → newline-leaf t ≡ z → expect-any n a b (t ∷ ts)
+          ≡ (if either a b t then push t (nothing ts) else raise (unexpected t (kinds a b)) (if newline-leaf t then nothing (t ∷ ts) else push t (nothing ts)))
+      go true e true w = absurd (false≢true (sym (no-newline t e) ∙ w))
+      go true e false w = rw (e, w, expect-any, maybe) refl
+      go false e true w = rw (e, w, expect-any, maybe) refl
+      go false e false w = rw (e, w, expect-any, maybe) refl
 
 pub is-tested : (k : ℕ) → (k ≡ 0 → ⊥) → Tested (is k) (λ j. eqb j k)
 is-tested k z = record { none = ne-eqb 0 k (λ e. z (sym e)); same = λ t w. refl }

@@ -7,7 +7,7 @@ use parser::Seen;
 use syntax_kind::kind::Kind;
 use tree::level::OPEN_LEVELS;
 ghost use mathlib.Core.Path.{_≡_};
-ghost use mathlib.Core.Bool.{false};
+ghost use mathlib.Core.Bool.{false, _||_};
 ghost use lib.ListN.{length};
 ghost use Rattle.definition.specs.Tree.{body-kind};
 ghost use Rattle.definition.specs.Parser as reader;
@@ -41,6 +41,16 @@ pub fn with_run(state: ParserRun, run: Run) -> ParserRun
         errs: state.errs,
         over: state.over,
     }
+}
+
+// Whether something went wrong before, or does now.
+pub fn worse(before: bool, now: bool) -> bool
+    ensures { λ r. ⌜ r ≡ (before || now) ⌝ }
+{
+    if before {
+        return true;
+    }
+    now
 }
 
 // Takes the leaf that is seen.

@@ -23,10 +23,10 @@ use Rattle.parser_run.specs.declared.ParserRun.{ParserRun}
 use Rattle.parser_run.specs.Reads.{with-run, stand, Reads, Took, Moves}
 use Rattle.parser_run.proofs.Laws.{reads-then, bump-rowed, trivia-rowed, took}
 use Rattle.parser_run.proofs.Parts.{ready-took}
-use Rattle.syntax.specs.Line.{hash-front, hash-reader}
-use Rattle.syntax.specs.Group.{group-at, nodeless}
+use Rattle.group.specs.Group.{group-at, nodeless}
+use Rattle.group.proofs.Lines.{group-lparen}
+use Rattle.syntax.specs.Item.{hash-front, hash-reader}
 use Rattle.syntax.specs.Section.{Fronted, Noded}
-use Rattle.syntax.proofs.Lines.{group-lparen}
 use Rattle.syntax.proofs.Items.{hash-group}
 
 -- Trivia that was passed over is written,

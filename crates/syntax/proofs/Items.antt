@@ -23,9 +23,9 @@ use Rattle.parser.specs.Rest.{leaf-seen, unread, Takes}
 use Rattle.parser_run.specs.declared.ParserRun.{ParserRun}
 use Rattle.parser_run.specs.Reads.{with-run, Stand, stand, unread-at, Gives, Reads, Took, Moves}
 use Rattle.parser_run.proofs.Laws.{reads-is, reads-then, Rowed, bump-rowed, took}
-use Rattle.syntax.specs.Line.{Ends, hash-front, hash-reader}
-use Rattle.syntax.specs.Group.{group-at, nodeless}
-use Rattle.syntax.proofs.Lines.{silent, closed-at}
+use Rattle.group.specs.Group.{group-at, nodeless}
+use Rattle.group.proofs.Lines.{silent, closed-at}
+use Rattle.syntax.specs.Item.{Ends, hash-front, hash-reader}
 
 -- What a reader reads in an open node, which is then shut.
 pub ends-by : {src : List ℕ} {p : Reader} {l : Line} {m : Stand} {t o e t′ o′ : List ℕ} {st st′ : ParserRun} {k : ℕ} → l .node-kind ≡ some k → l .got ≡ p (unread-at src m)

@@ -29,11 +29,12 @@ use Rattle.parser_run.specs.Reads.{with-run, Stand, stand, unread-at, Reads, To
 use Rattle.parser_run.proofs.Laws.{reads-is, reads-nothing, reads-then, reads-raise, bump-rowed}
 use Rattle.word.specs.Word.{Word, Finds, directive-at}
 use Rattle.word.proofs.Words.{found-known, found-unknown}
-use Rattle.syntax.specs.Line.{tail-errors, Ends}
-use Rattle.syntax.specs.Group.{group-at, none-met, closed, nodeless}
+use Rattle.line.specs.Line.{tail-errors}
+use Rattle.group.specs.Group.{group-at, none-met, closed, nodeless}
+use Rattle.group.proofs.Groups.{held-within}
+use Rattle.group.proofs.Lines.{group-closed, silent, at-lparen}
+use Rattle.syntax.specs.Item.{Ends}
 use Rattle.syntax.specs.Section.{Noded, Unended, Worded}
-use Rattle.syntax.proofs.Groups.{held-within}
-use Rattle.syntax.proofs.Lines.{group-closed, silent, at-lparen}
 use Rattle.syntax.proofs.Items.{ends-by, group-took}
 
 -- The end of an unknown directive's line meets no error.

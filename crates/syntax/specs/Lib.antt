@@ -1,3 +1,2 @@
-pub mod Line
-pub mod Group
+pub mod Item
 pub mod Section

@@ -10,7 +10,7 @@ use Rattle.parser.specs.declared.Seen.{Seen}
 use Rattle.parser.specs.declared.trivia.Trivia.{Trivia}
 use Rattle.parser.specs.Rest.{unread, Reading}
 use Rattle.parser.specs.Passed.{Passes, Behind}
-use Rattle.syntax.specs.Group.{nodeless}
+use Rattle.group.specs.Group.{nodeless}
 
 -- A HASH is seen behind the trivia that begins at s, which is passed over.
 pub record Hashed (src classes : List ℕ) (s : Seen) (before : Trivia) : Type 0 where

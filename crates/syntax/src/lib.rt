@@ -1,4 +1,2 @@
-// The directives (`syntax.rs`).
-pub mod group;
-pub mod line;
+// Items that begin with a HASH (`syntax.rs`).
 pub mod section;

@@ -1,6 +1,4 @@
 // A directive's line from its word on, and an item from its HASH on (`if_section_or_control_line` of `syntax.rs`).
-use crate::group;
-use crate::line;
 use error::ErrorKind;
 use parser::Seen;
 use parser::trivia::Trivia;
@@ -15,7 +13,7 @@ ghost use Rattle.definition.specs.Syntax.{directive, unknown, control-line, rel
 ghost use Rattle.word.specs.Word.{Finds, directive-at};
 ghost use Rattle.parser.specs.Rest.{leaf-seen, unread, Held, Reading};
 ghost use Rattle.parser_run.specs.Reads.{stand, Reads, Took};
-ghost use Rattle.syntax.specs.Line.{Ends, hash-front, hash-reader};
+ghost use Rattle.syntax.specs.Item.{Ends, hash-front, hash-reader};
 ghost use Rattle.syntax.specs.Section.{Hashed, Fronted, Noded, Unended, Worded};
 
 // The line of an unknown word, which is seen: an error at the word, and none for what follows it.
