@@ -38,6 +38,6 @@ fill-spec =
     (λ c κs. search cases)
     (λ c. search cases)
     (λ c. search (nearer, cases))
-    (λ c. search (another-two, cases))
+    (λ c. another-two _ _ _ _ _ (c .before .before .before .before .before .before .before .loop .inv) _ (search cases) (search cases) (search cases) _ (search cases))
     (λ c. omega (arith, kept _ _ _ _ _ (c .before .loop .inv)))
     (λ c. search (done, cases)))
