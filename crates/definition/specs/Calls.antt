@@ -1,6 +1,6 @@
 -- The seven calls (01, "The call" and "Refused, in checking order"): each outcome, on whatever it is handed.
 use Rattle.definition.specs.Text.{ℕ, _-_, Bool, false, not, _||_, List, [], _∷_, _++_, eqb, ltb, length, replicate, if_then_else_, Kind}
-use Rattle.definition.specs.Utf8.{utf8}
+use Rattle.definition.specs.Utf8.{utf8, ends-inside}
 use Rattle.definition.specs.Unescaped.{unescaped}
 use Rattle.definition.specs.LineMap.{line-starts, get-line-and-col, line-table}
 use Rattle.definition.specs.Glue.{tokens, token-numbers, pasted-kind}
@@ -29,18 +29,24 @@ unfoldable pub too-many : List ℕ → Bool
 too-many [] = false
 too-many (n ∷ ns) = ltb most-concats n || too-many ns
 
--- The nine refusals, by their conditions.
-abbrev pub Refusal : record { LENGTH : ℕ; UTF8 : ℕ; CONCATS : ℕ; ENTRIES : ℕ; ERRORS : ℕ; LINES : ℕ; LOOKUP : ℕ; OUTPUT : ℕ; KIND : ℕ }
-Refusal = record { LENGTH = 1; UTF8 = 2; CONCATS = 3; ENTRIES = 4; ERRORS = 5; LINES = 6; LOOKUP = 7; OUTPUT = 8; KIND = 9 }
+-- The nine refusals of 01 and that of Req 01, by their conditions.
+abbrev pub Refusal : record { LENGTH : ℕ; UTF8 : ℕ; CONCATS : ℕ; ENTRIES : ℕ; ERRORS : ℕ; LINES : ℕ; LOOKUP : ℕ; OUTPUT : ℕ; KIND : ℕ; CUT : ℕ }
+Refusal = record { LENGTH = 1; UTF8 = 2; CONCATS = 3; ENTRIES = 4; ERRORS = 5; LINES = 6; LOOKUP = 7; OUTPUT = 8; KIND = 9; CUT = 10 }
 
 abbrev pub too-long : List ℕ → Check  -- 1: the source or text is longer.
 too-long src = record { number = Refusal.LENGTH; fails = ltb longest-source (length src) }
 
-abbrev pub not-utf8 : List ℕ → Check  -- 2: it is not UTF-8.
-not-utf8 src = record { number = Refusal.UTF8; fails = not (utf8 src) }
+abbrev pub not-utf8 : List ℕ → Check  -- 2: it is not UTF-8, and not for its end alone.
+not-utf8 src = record { number = Refusal.UTF8; fails = not (utf8 src || ends-inside src) }
+
+abbrev pub cut-off : List ℕ → Check  -- 10, Req 01: it ends inside a character.
+cut-off src = record { number = Refusal.CUT; fails = ends-inside src }
+
+abbrev pub utf8-checks : List ℕ → List Check  -- Req 01: 10 is checked with 2, which keeps the rest.
+utf8-checks src = not-utf8 src ∷ cut-off src ∷ []
 
 abbrev pub source-checks : List ℕ → List Check  -- What every call on a source or text checks first.
-source-checks src = too-long src ∷ not-utf8 src ∷ []
+source-checks src = too-long src ∷ utf8-checks src
 
 abbrev pub too-many-concats : List ℕ → Check  -- 3: some body holds more ##.
 too-many-concats counts = record { number = Refusal.CONCATS; fails = too-many counts }
@@ -92,7 +98,7 @@ pub record Reading : Type 0 where
   pub error-table : List ℕ
   pub line-table : List ℕ
 
-abbrev pub reading-checks : List ℕ → Full → ℕ → ℕ → ℕ → List Check  -- Reading checks 1 to 6.
+abbrev pub reading-checks : List ℕ → Full → ℕ → ℕ → ℕ → List Check  -- Reading checks 1, 2, 10, 3 to 6.
 reading-checks src f entry-room error-room line-room =
     source-checks src ++ (too-many-concats (f .concats) ∷
     short-table Refusal.ENTRIES (entries-of f) entry-room ∷ short-table Refusal.ERRORS (errors-of f) error-room ∷ short-table Refusal.LINES (f .lines) line-room ∷ [])
@@ -122,25 +128,25 @@ pub record Filled : Type 0 where
 abbrev pub fills : ℕ → ℕ → List ℕ → ℕ → Filled  -- Its answer under a refusal number.
 fills r n numbers room = record { refused = r; count = counted r n; table = filled r numbers room }
 
-unfoldable pub reading-body : List ℕ → ℕ → Filled  -- `Parser::parse_define_body` checks 1 to 4.
+unfoldable pub reading-body : List ℕ → ℕ → Filled  -- `Parser::parse_define_body` checks 1, 2, 10, 3, 4.
 reading-body src room =
     let tree = parse-define-body src in
     let es = entries 0 0 tree in
     let ns = entry-numbers es in
     fills (refusal (source-checks src ++ (too-many-concats (body-concats tree) ∷ short-table Refusal.ENTRIES ns room ∷ []))) (length es) ns room
 
-unfoldable pub listing-tokens : List ℕ → ℕ → Filled  -- `Lexer` checks 1, 2, 4.
+unfoldable pub listing-tokens : List ℕ → ℕ → Filled  -- `Lexer` checks 1, 2, 10, 4.
 listing-tokens src room =
     let ts = tokens false src in
     let ns = token-numbers 0 ts in
     fills (refusal (source-checks src ++ (short-table Refusal.ENTRIES ns room ∷ []))) (length ts) ns room
 
-unfoldable pub building-lines : List ℕ → ℕ → Filled  -- The line table checks 1, 2, 6.
+unfoldable pub building-lines : List ℕ → ℕ → Filled  -- The line table checks 1, 2, 10, 6.
 building-lines src room =
     let ns = line-starts src in
     fills (refusal (source-checks src ++ (short-table Refusal.LINES ns room ∷ []))) (length ns) ns room
 
-unfoldable pub unescaping : List ℕ → ℕ → Filled  -- `Unescaped::chars` checks 1, 2, 8.
+unfoldable pub unescaping : List ℕ → ℕ → Filled  -- `Unescaped::chars` checks 1, 2, 10, 8.
 unescaping src room =
     let ns = unescaped src in
     fills (refusal (source-checks src ++ (short-table Refusal.OUTPUT ns room ∷ []))) (length ns) ns room

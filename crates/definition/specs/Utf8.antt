@@ -54,6 +54,10 @@ left (s ∷ ss) [] = cut
 left [] (b ∷ bs) = elim (follow char-forms b) [ some ss ↦ left ss bs | none ↦ broken ]
 left (s ∷ ss) (b ∷ bs) = elim (within s b) [ true ↦ left ss bs | false ↦ broken ]
 
--- Whether the bytes are UTF-8.
+-- Whether the bytes are UTF-8: nothing is left.
 unfoldable pub utf8 : List ℕ → Bool
 utf8 bs = elim (left [] bs) [ nothing ↦ true | cut ↦ false | broken ↦ false ]
+
+-- Req 01: whether they end inside a character: the beginning of one is left.
+unfoldable pub ends-inside : List ℕ → Bool
+ends-inside bs = elim (left [] bs) [ nothing ↦ false | cut ↦ true | broken ↦ false ]
