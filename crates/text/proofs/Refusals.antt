@@ -7,9 +7,9 @@ use lib.Dec.{eqb}
 use lib.ListN.{length}
 use borrow.Author.Tests.{lt-ltb, le-ltb, eq-eqb, ne-eqb, ltb-false, eqb-false, not-true}
 use Rattle.definition.specs.Text.{if_then_else_}
-use Rattle.definition.specs.Utf8.{left, utf8, nothing, cut, broken}
-use Rattle.definition.specs.Calls.{Check, refusal, longest-source, too-long, not-utf8, source-checks}
-use Rattle.theorems.proofs.Refusals.{numbered}
+use Rattle.definition.specs.Utf8.{left, utf8, ends-inside, nothing, cut, broken}
+use Rattle.definition.specs.Calls.{Check, refusal, longest-source, too-long, not-utf8, cut-off, utf8-checks, source-checks}
+use Rattle.theorems.proofs.Refusals.{lacks, numbered}
 use Rattle.text.specs.Utf8.{told}
 use Rattle.text.specs.declared.utf8.Left.{Left}
 use Rattle.text.specs.declared.utf8.Left.the-variants.{Nothing, Cut, Broken}
@@ -17,7 +17,7 @@ use Rattle.text.specs.declared.utf8.Left.the-variants.{Nothing, Cut, Bro
 -- The refusals of a call in two parts: the first part decides unless it passes.
 pub refusal-split : (front rest : List Check) → numbered front ≡ true
     → refusal (front ++ rest) ≡ (if eqb (refusal front) 0 then refusal rest else refusal front)
-unfolding refusal numbered
+unfolding refusal lacks
 refusal-split [] rest h = refl
 refusal-split (c ∷ front) rest h =
     let p = and-eq-true-iff (not (eqb (c .number) 0)) (numbered front) .0 h in
@@ -31,7 +31,7 @@ refusal-split (c ∷ front) rest h =
     go false z ih = ih
 
 pub refusal-passed : (c : Check) (cs : List Check) → numbered (c ∷ cs) ≡ true → refusal (c ∷ cs) ≡ 0 → c .fails ≡ false
-unfolding refusal numbered
+unfolding refusal lacks
 refusal-passed c cs h e = go (c .fails) (and-eq-true-iff (not (eqb (c .number) 0)) (numbered cs) .0 h .0) e
   where
     go : (t : Bool) → not (eqb (c .number) 0) ≡ true → (if t then c .number else refusal cs) ≡ 0 → t ≡ false
@@ -50,21 +50,21 @@ module _ (src : List ℕ) where
   -- The answer of the UTF-8 check decides whether a source is refused that is not too long.
   module _ (l : Left) (h : length src ≤ longest-source) (e : told l ≡ left [] src) where
     pub whole-source : l ≡ Nothing → 0 ≡ refusal (source-checks src)
-    unfolding refusal utf8
-    whole-source q = let d : left [] src ≡ nothing = sym e ∙ ap told q in rw (le-ltb longest-source (length src) h, d, utf8)
+    unfolding refusal utf8 ends-inside
+    whole-source q = let d : left [] src ≡ nothing = sym e ∙ ap told q in rw (le-ltb longest-source (length src) h, d, utf8, ends-inside)
 
-    pub cut-source : l ≡ Cut → not-utf8 src .number ≡ refusal (source-checks src)
-    unfolding refusal utf8
-    cut-source q = let d : left [] src ≡ cut = sym e ∙ ap told q in rw (le-ltb longest-source (length src) h, d, utf8)
+    pub cut-source : l ≡ Cut → cut-off src .number ≡ refusal (source-checks src)
+    unfolding refusal utf8 ends-inside
+    cut-source q = let d : left [] src ≡ cut = sym e ∙ ap told q in rw (le-ltb longest-source (length src) h, d, utf8, ends-inside)
 
     pub broken-source : l ≡ Broken → not-utf8 src .number ≡ refusal (source-checks src)
-    unfolding refusal utf8
-    broken-source q = let d : left [] src ≡ broken = sym e ∙ ap told q in rw (le-ltb longest-source (length src) h, d, utf8)
+    unfolding refusal utf8 ends-inside
+    broken-source q = let d : left [] src ≡ broken = sym e ∙ ap told q in rw (le-ltb longest-source (length src) h, d, utf8, ends-inside)
 
 -- What a source is refused for comes first, and if it is not refused, the other refusals of the call decide.
 module _ (src : List ℕ) (r : ℕ) (e : r ≡ refusal (source-checks src)) where
   split : (cs : List Check) → refusal (source-then src cs) ≡ (if eqb r 0 then refusal cs else r)
-  unfolding numbered
+  unfolding lacks
   split cs = rw e (refusal-split (source-checks src) cs refl)
 
   pub source-refused : (cs : List Check) → (r ≡ 0 → ⊥) → refusal (source-then src cs) ≡ r
@@ -74,5 +74,5 @@ module _ (src : List ℕ) (r : ℕ) (e : r ≡ refusal (source-checks src)) wher
   source-passed cs z = split cs ∙ rw (eq-eqb r 0 z)
 
   pub source-length : r ≡ 0 → length src ≤ longest-source
-  unfolding numbered
-  source-length z = ltb-false longest-source (length src) (refusal-passed (too-long src) (not-utf8 src ∷ []) refl (sym e ∙ z))
+  unfolding lacks
+  source-length z = ltb-false longest-source (length src) (refusal-passed (too-long src) (utf8-checks src) refl (sym e ∙ z))

@@ -1,4 +1,4 @@
-// The refusal numbers, in checking order (01), by the names of the definition.
+// The refusal numbers (01, Req 01), by the names of the definition.
 pub struct Refusal {
     pub number: u32,
 }
@@ -24,4 +24,7 @@ impl Refusal {
     pub const OUTPUT: u32 = 8;
 
     pub const KIND: u32 = 9;
+
+    // Checked with UTF8.
+    pub const CUT: u32 = 10;
 }

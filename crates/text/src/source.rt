@@ -1,4 +1,4 @@
-// The refusals that every call on a source shares: it is too long, or it is not UTF-8.
+// The refusals that every call on a source shares: it is too long, not UTF-8, or ends inside a character.
 use crate::refusal::Refusal;
 use crate::utf8::Left;
 ghost use mathlib.Core.Path.{_≡_};
@@ -15,7 +15,7 @@ pub fn refused(src: &[u8]) -> u32
     }
     match crate::utf8::check(src) {
         Left::Nothing => Refusal::NONE,
-        Left::Cut => Refusal::UTF8,
+        Left::Cut => Refusal::CUT,
         Left::Broken => Refusal::UTF8,
     }
 }

@@ -13,12 +13,7 @@ use Rattle.definition.specs.Tree.{Width, entries, body-concats}
 use Rattle.definition.specs.Syntax.{parse-define-body}
 use Rattle.definition.specs.Calls.{Check, longest-source, source-checks, full-reading, reading, reading-body, listing-tokens, building-lines, unescaping, looking-up, pasting, no-kind}
 use Rattle.theorems.specs.Refusals.{Pass, Refuses, Some-over, Line-table}
-use Rattle.theorems.proofs.Refusals.{reading-refuses, body-refuses, tokens-refuses, lines-refuses, unescape-refuses, lookup-refuses, paste-refuses, length-entries, length-errors, length-tokens, too-many-when, line-table-when, source-passes, pass-then}
-
--- A condition that does not hold.
-unmet : (b : Bool) → (b ≡ true → ⊥) → b ≡ false
-unmet true h = absurd (h refl)
-unmet false h = refl
+use Rattle.theorems.proofs.Refusals.{reading-refuses, body-refuses, tokens-refuses, lines-refuses, unescape-refuses, lookup-refuses, paste-refuses, length-entries, length-errors, length-tokens, too-many-when, line-table-when, unmet, source-passes, pass-then}
 
 -- A call on a source asks that it is not too long, and UTF-8, and what else it checks.
 source-accepts : (src : List ℕ) (r : ℕ) (cs : List Check) → Refuses r (source-checks src ++ cs) → length src ≤ longest-source → utf8 src ≡ true → Pass cs → r ≡ 0

@@ -1,7 +1,7 @@
 -- The refusals of the seven calls.
 use Prim.Native.Nat.{ℕ, _+_, _*_, _<_, _≤_}
 use mathlib.Core.Path.{_≡_, refl, ap, _∙_}
-use mathlib.Core.Bool.{Bool, true, false, not, _&&_, false≢true, or-true, and-eq-true-iff}
+use mathlib.Core.Bool.{Bool, true, false, not, _&&_, _||_, false≢true, or-true, and-eq-true-iff}
 use mathlib.Core.Logic.{_↔_, _⊎_, inl, inr}
 use mathlib.Core.List.{List, [], _∷_, _++_}
 use borrow.Author.Tests.{ltb-true, lt-ltb, le-ltb, eqb-true, eqb-false, eq-eqb, ne-eqb, not-true}
@@ -9,15 +9,17 @@ use native.Mathlib.Omega.{arith}
 use lib.ListN.{length}
 use lib.Dec.{eqb, ltb}
 use Rattle.definition.specs.Runs.{text}
-use Rattle.definition.specs.Utf8.{utf8}
+use Rattle.definition.specs.Utf8.{Left, nothing, cut, broken, left, utf8, ends-inside}
 use Rattle.definition.specs.LineMap.{line-starts, rises, line-table}
 use Rattle.definition.specs.Unescaped.{unescaped}
 use Rattle.definition.specs.Glue.{Token, tokens, token-numbers}
 use Rattle.definition.specs.Tree.{Entry, Width, entries, entry-numbers, body-concats}
 use Rattle.definition.specs.Error.{Err, error-numbers}
 use Rattle.definition.specs.Syntax.{parse-define-body}
-use Rattle.definition.specs.Calls.{Check, Refusal, longest-source, most-concats, refusal, too-many, too-long, not-utf8, source-checks, too-many-concats, short-table, no-line-table, no-kind, counted, filled, full-reading, reading-checks, outcome, reading, reading-body, listing-tokens, building-lines, unescaping, looking-up, pasting}
+use Rattle.definition.specs.Calls.{Check, Refusal, longest-source, most-concats, refusal, too-many, too-long, not-utf8, cut-off, source-checks, too-many-concats, short-table, no-line-table, no-kind, counted, filled, full-reading, reading-checks, outcome, reading, reading-body, listing-tokens, building-lines, unescaping, looking-up, pasting}
+use Rattle.theorems.specs.Characters.{Characters, Ends-inside}
 use Rattle.theorems.specs.Refusals.{Pass, Given, Refuses, Zeros, Some-over, Rises, Line-table}
+use Rattle.theorems.proofs.Characters.{utf8-when, ends-inside-when}
 
 -- A number is given exactly if its condition holds and no earlier one does.
 refusal-given : (cs : List Check) (n : ℕ) → 0 < n → refusal cs ≡ n → Given n cs
@@ -39,13 +41,17 @@ first-refusal (b ∷ before) later c f p = rw (p .0, refusal) (first-refusal bef
 given-refusal : (cs : List Check) (n : ℕ) → Given n cs → refusal cs ≡ n
 given-refusal cs n g = ap refusal (g .all) ∙ first-refusal (g .before) (g .later) (g .check) (g .holds) (g .no-earlier) ∙ g .number-is
 
+-- None has this number.
+unfoldable pub lacks : ℕ → List Check → Bool
+lacks n [] = true
+lacks n (c ∷ cs) = not (eqb (c .number) n) && lacks n cs
+
 -- No number is 0, so that 0 says that no condition holds.
-unfoldable pub numbered : List Check → Bool
-numbered [] = true
-numbered (c ∷ cs) = not (eqb (c .number) 0) && numbered cs
+abbrev pub numbered : List Check → Bool
+numbered = lacks 0
 
 refusal-pass : (cs : List Check) → numbered cs ≡ true → refusal cs ≡ 0 → Pass cs
-unfolding refusal Pass numbered
+unfolding refusal Pass lacks
 refusal-pass [] h e = tt
 refusal-pass (c ∷ cs) h e = go (c .fails) refl (λ q. refusal-pass cs (k .1) q)
   where
@@ -68,10 +74,10 @@ zeros : (r n : ℕ) (numbers : List ℕ) (room : ℕ) → Zeros r (counted r n) 
 unfolding filled
 zeros r n numbers room = record { count-0 = λ h. rw (ne-eqb r 0 h) refl; table-0 = λ h. rw (ne-eqb r 0 h) refl }
 
--- Reading a source: 1 to 6.
+-- Reading a source: 1, 2, 10, 3 to 6.
 module _ (src : List ℕ) (a b c : ℕ) where
   pub reading-refuses : Refuses (reading src a b c .refused) (reading-checks src (full-reading src) a b c)
-  unfolding reading outcome numbered
+  unfolding reading outcome lacks
   reading-refuses = refuses (reading-checks src (full-reading src) a b c) refl
 
   pub reading-zero-entries : Zeros (reading src a b c .refused) (reading src a b c .entry-count) a (reading src a b c .entry-table)
@@ -91,42 +97,42 @@ module _ (src : List ℕ) (room : ℕ) where
   abbrev body-entries : List ℕ
   body-entries = entry-numbers (entries 0 0 (parse-define-body src))
 
-  -- Reading a define body: 1 to 4.
+  -- Reading a define body: 1, 2, 10, 3, 4.
   pub body-refuses : Refuses
       (reading-body src room .refused)
       (source-checks src ++ (too-many-concats (body-concats (parse-define-body src)) ∷ short-table Refusal.ENTRIES body-entries room ∷ []))
-  unfolding reading-body numbered
+  unfolding reading-body lacks
   body-refuses = refuses _ refl
 
   pub body-zeros : Zeros (reading-body src room .refused) (reading-body src room .count) room (reading-body src room .table)
   unfolding reading-body
   body-zeros = zeros _ _ _ room
 
-  -- Listing tokens: 1, 2, 4.
+  -- Listing tokens: 1, 2, 10, 4.
   pub tokens-refuses : Refuses
       (listing-tokens src room .refused)
       (source-checks src ++ (short-table Refusal.ENTRIES (token-numbers 0 (tokens false src)) room ∷ []))
-  unfolding listing-tokens numbered
+  unfolding listing-tokens lacks
   tokens-refuses = refuses _ refl
 
   pub tokens-zeros : Zeros (listing-tokens src room .refused) (listing-tokens src room .count) room (listing-tokens src room .table)
   unfolding listing-tokens
   tokens-zeros = zeros _ _ _ room
 
-  -- Building the line table: 1, 2, 6.
+  -- Building the line table: 1, 2, 10, 6.
   pub lines-refuses : Refuses
       (building-lines src room .refused) (source-checks src ++ (short-table Refusal.LINES (line-starts src) room ∷ []))
-  unfolding building-lines numbered
+  unfolding building-lines lacks
   lines-refuses = refuses _ refl
 
   pub lines-zeros : Zeros (building-lines src room .refused) (building-lines src room .count) room (building-lines src room .table)
   unfolding building-lines
   lines-zeros = zeros _ _ _ room
 
-  -- Unescaping: 1, 2, 8.
+  -- Unescaping: 1, 2, 10, 8.
   pub unescape-refuses : Refuses
       (unescaping src room .refused) (source-checks src ++ (short-table Refusal.OUTPUT (unescaped src) room ∷ []))
-  unfolding unescaping numbered
+  unfolding unescaping lacks
   unescape-refuses = refuses _ refl
 
   pub unescape-zeros : Zeros (unescaping src room .refused) (unescaping src room .count) room (unescaping src room .table)
@@ -136,7 +142,7 @@ module _ (src : List ℕ) (room : ℕ) where
 -- Looking up an offset: 7. Pasting two kinds: 9. A refused one answers zeros.
 module _ (lines : List ℕ) (offset : ℕ) where
   pub lookup-refuses : Refuses (looking-up lines offset .refused) (no-line-table lines ∷ [])
-  unfolding looking-up numbered
+  unfolding looking-up lacks
   lookup-refuses = refuses _ refl
 
   pub lookup-zeros : (looking-up lines offset .refused ≡ 0 → ⊥) → (looking-up lines offset .line ≡ 0) × (looking-up lines offset .column ≡ 0)
@@ -145,7 +151,7 @@ module _ (lines : List ℕ) (offset : ℕ) where
 
 module _ (lhs rhs : ℕ) where
   pub paste-refuses : Refuses (pasting lhs rhs .refused) (no-kind lhs ∷ no-kind rhs ∷ [])
-  unfolding pasting numbered
+  unfolding pasting lacks
   paste-refuses = refuses _ refl
 
   pub paste-zeros : (pasting lhs rhs .refused ≡ 0 → ⊥) → pasting lhs rhs .kind ≡ 0
@@ -175,13 +181,35 @@ short-when number room numbers = (ltb-true room (length numbers), lt-ltb room (l
 pub too-long-when : (src : List ℕ) → (too-long src .fails ≡ true) ↔ (longest-source < length src)
 too-long-when src = (ltb-true longest-source (length src), lt-ltb longest-source (length src))
 
-pub not-utf8-when : (src : List ℕ) → (not-utf8 src .fails ≡ true) ↔ (utf8 src ≡ false)
-not-utf8-when src = (not-true (utf8 src), λ e. ap not e)
+-- A condition that does not hold.
+pub unmet : (b : Bool) → (b ≡ true → ⊥) → b ≡ false
+unmet true h = absurd (h refl)
+unmet false h = refl
 
--- A source that is not too long, and UTF-8, passes,
+-- 10 exactly if the source ends inside a character, 2 exactly if it is neither characters nor that.
+pub cut-off-when : (src : List ℕ) → (cut-off src .fails ≡ true) ↔ Ends-inside src
+cut-off-when src = ends-inside-when src
+
+pub not-utf8-when : (src : List ℕ) → (not-utf8 src .fails ≡ true) ↔ ((Characters src → ⊥) × (Ends-inside src → ⊥))
+not-utf8-when src = (
+  λ e. (λ w. false≢true (rw (utf8-when src .1 w) at e), λ c. false≢true (rw (ends-inside-when src .1 c, or-true (utf8 src)) at e)),
+  λ n. rw (unmet (utf8 src) (λ u. n .0 (utf8-when src .0 u)), unmet (ends-inside src) (λ c. n .1 (ends-inside-when src .0 c))),
+)
+
+-- A source that is UTF-8 does not end inside a character,
+whole-end : (src : List ℕ) → utf8 src ≡ true → ends-inside src ≡ false
+unfolding utf8 ends-inside
+whole-end src u = go (left [] src) u
+  where
+    go : (l : Left) → elim l [ nothing ↦ true | cut ↦ false | broken ↦ false ] ≡ true → elim l [ nothing ↦ false | cut ↦ true | broken ↦ false ] ≡ false
+    go nothing e = refl
+    go cut e = absurd (false≢true e)
+    go broken e = refl
+
+-- and passes if it is not too long,
 pub source-passes : (src : List ℕ) → length src ≤ longest-source → utf8 src ≡ true → Pass (source-checks src)
 unfolding Pass
-source-passes src n u = (le-ltb longest-source (length src) n, (ap not u, tt))
+source-passes src n u = (le-ltb longest-source (length src) n, (rw u, (whole-end src u, tt)))
 
 -- and checks after others pass if both do.
 pub pass-then : (xs ys : List Check) → Pass xs → Pass ys → Pass (xs ++ ys)
