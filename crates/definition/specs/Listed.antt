@@ -1,6 +1,6 @@
 -- What the program `listing` prints for a source, without the words (01, "Worked readings").
 use Rattle.definition.specs.Text.{ℕ, _*_, take, List, _∷_, _++_, length, ascii, same}
-use Rattle.definition.specs.Utf8.{char-forms, follow, left, utf8}
+use Rattle.definition.specs.Utf8.{char-forms, follow, left, utf8, ends-inside}
 use Rattle.definition.specs.Runs.{joined, runs, grouped}
 use Rattle.definition.specs.Newline.{char-more, chars}
 use Rattle.definition.specs.LineMap.{newline-ends, line-starts, last-line, get-line-and-col}
@@ -15,7 +15,7 @@ use Rattle.definition.specs.Calls.{refusal, too-many, padded, filled, fu
 
 -- The reading with tables that are just long enough.
 unfoldable pub listed : List ℕ → List ℕ
-unfolding ascii same char-forms follow left utf8 joined runs grouped char-more chars newline-ends line-starts last-line get-line-and-col unescaped-chars unescaped kind-of find begin flag more pre-begin pre-more pres glued flat pre-kind tokens placed bytes _▹_ leaves row size entries entry-numbers concat-ops body-concats error-numbers while after peek _then_ wrap skip skip-trivia nothing bump maybe expect-one nest wrapped pasted pp-tokens-from pp-tokens all-trivia trimmed trailing body pp-body args define-args pp-define pp-if-ident pp-version colon pp-extension last-stop extra finish directive-named directive unknown depth pp-rs-ident pp-include directives control-line hash-item item file relexed parse refusal too-many padded filled full-reading outcome reading
+unfolding ascii same char-forms follow left utf8 ends-inside joined runs grouped char-more chars newline-ends line-starts last-line get-line-and-col unescaped-chars unescaped kind-of find begin flag more pre-begin pre-more pres glued flat pre-kind tokens placed bytes _▹_ leaves row size entries entry-numbers concat-ops body-concats error-numbers while after peek _then_ wrap skip skip-trivia nothing bump maybe expect-one nest wrapped pasted pp-tokens-from pp-tokens all-trivia trimmed trailing body pp-body args define-args pp-define pp-if-ident pp-version colon pp-extension last-stop extra finish directive-named directive unknown depth pp-rs-ident pp-include directives control-line hash-item item file relexed parse refusal too-many padded filled full-reading outcome reading
 listed src =
     let f = full-reading src in
     let r = reading src (length (entries-of f)) (length (errors-of f)) (length (f .lines)) in
