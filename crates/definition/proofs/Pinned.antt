@@ -2,7 +2,7 @@
 use mathlib.Core.Path.{_≡_, refl}
 use Rattle.definition.specs.Text.{ℕ, zero, suc, true, false, List, [], _∷_, _++_, map, eqb, length, replicate, if_then_else_, ascii, same}
 use Rattle.definition.specs.SyntaxKind.{Kind as K}
-use Rattle.definition.specs.Utf8.{char-forms, follow, left, cut, broken, utf8}
+use Rattle.definition.specs.Utf8.{char-forms, follow, left, cut, broken, utf8, ends-inside}
 use Rattle.definition.specs.Newline.{LETTER, DIGIT, NEWLINE, WS, PUNCT, class}
 use Rattle.definition.specs.Glue.{Glue, gl, glued, pasted-kind}
 use Rattle.definition.specs.Calls.{refusal, too-many, outcome, reading, reading-body, listing-tokens, building-lines, unescaping, pasting}
@@ -40,7 +40,8 @@ sames : same (ascii "ab") (ascii "ab") ∷ same (ascii "ab") (ascii "ac") ∷ sa
 unfolding same ascii
 sames = refl
 
--- Each call on a source refuses 1 above 16,777,216 bytes, whatever else holds, and 2 up to it where the source is not UTF-8.
+-- Each call on a source refuses 1 above 16,777,216 bytes, whatever else holds; up to it 2 where the source is not UTF-8, and 10 where it also
+-- ends inside a character.
 abbrev refusals : List ℕ → ℕ → ℕ → ℕ → List ℕ
 refusals src a b c =
     reading src a b c .refused ∷ reading-body src a .refused ∷ listing-tokens src a .refused ∷ building-lines src a .refused
@@ -50,9 +51,15 @@ too-long : (src : List ℕ) (a b c : ℕ) → length src ≡ 16_777_217 → refu
 unfolding reading outcome reading-body listing-tokens building-lines unescaping refusal
 too-long src a b c e = rw e
 
-not-utf8 : (src : List ℕ) (a b c : ℕ) → length src ≡ 16_777_216 → utf8 src ≡ false → refusals src a b c ≡ 2 ∷ 2 ∷ 2 ∷ 2 ∷ 2 ∷ []
+not-utf8 : (src : List ℕ) (a b c : ℕ) → length src ≡ 16_777_216 → utf8 src ≡ false → ends-inside src ≡ false →
+    refusals src a b c ≡ 2 ∷ 2 ∷ 2 ∷ 2 ∷ 2 ∷ []
 unfolding reading outcome reading-body listing-tokens building-lines unescaping refusal
-not-utf8 src a b c e u = rw (e, u)
+not-utf8 src a b c e u i = rw (e, u, i)
+
+cut-off : (src : List ℕ) (a b c : ℕ) → length src ≡ 16_777_216 → utf8 src ≡ false → ends-inside src ≡ true →
+    refusals src a b c ≡ 10 ∷ 10 ∷ 10 ∷ 10 ∷ 10 ∷ []
+unfolding reading outcome reading-body listing-tokens building-lines unescaping refusal
+cut-off src a b c e u i = rw (e, u, i)
 
 -- A body of 256 ## is read, one of 257 refused.
 most : too-many (3 ∷ 256 ∷ []) ≡ false
