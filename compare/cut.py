@@ -5,13 +5,16 @@ NOT_UTF8, ENDS_INSIDE = 2, 10
 # The beginnings of characters, none of them whole. The last byte, which none of them has, tells 64 characters apart.
 BEGINNINGS = {whole[:count] for whole in (chr(n).encode() for n in range(0, 0x110000, 64) if not 0xd800 <= n < 0xe000) for count in range(1, len(whole))}
 
-def ends_inside(source):
-    """Whether the beginning of a character remains when whole ones are taken off the front."""
+def rest(source):
+    """What remains when whole characters are taken off the front."""
     try:
         source.decode()
     except UnicodeDecodeError as error:
-        return source[error.start:] in BEGINNINGS
-    return False
+        return source[error.start:]
+    return b""
+
+def ends_inside(source):
+    return rest(source) in BEGINNINGS
 
 def refusal(rust, source):
     """The refusal of a source that the Rust refuses so."""
