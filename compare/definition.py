@@ -6,16 +6,21 @@ usage: definition.py ORACLE [SOURCES]
 ORACLE is the folder of the oracle, built (`cargo build --offline --release`); SOURCES is how many sources are
 compared (2400 by default): short exhaustive ones over several alphabets, random and mutated ones. Every source goes
 through reading, body, tokens, lines and unescaping, with tables just long enough and, of each call, one number short;
-lookups and pastes get inputs of their own. Works in target/compare; prints what was compared, and each difference.
+lookups and pastes get inputs of their own. So do these five calls on sources that are refused, with no table and with
+some: each beginning of a character (cut.py) alone, some of them behind text and before it, and what is no beginning.
+Works in target/compare; prints what was compared, and each difference.
 """
 import os, random, re, shutil, subprocess, sys
 from pathlib import Path
+
+import cut
 
 if len(sys.argv) < 2:
     sys.exit(__doc__)
 TOP = Path(__file__).resolve().parent.parent
 ORACLE, WANT = Path(sys.argv[1]) / "target/release", int(sys.argv[2]) if len(sys.argv) > 2 else 2400
-WORK, PER_FILE, LONGEST = TOP / "target/compare", 100, 120
+WORK, PER_FILE, LONGEST, AT_ONCE = TOP / "target/compare", 100, 120, 50
+SOURCE_CALLS = "read", "body", "tokens", "lines", "unescape"
 
 def run(program, *words, given=b""):
     return subprocess.run([str(ORACLE / program), *map(str, words)], input=given, stdout=subprocess.PIPE, check=True).stdout
@@ -37,7 +42,7 @@ def answers(call, sources):
     for line in run("oracle", "batch", call, given=batch(sources)).decode().splitlines():
         word, *numbers = line.split(",")
         if word == "end":
-            out.append(one)
+            out.append([cut.refusal(one[0], sources[len(out)]), *one[1:]])
             one = []
         else:
             one += ([{"leaf": 0, "node": 1}[word]] if word in ("leaf", "node") else []) + [int(x) for x in numbers if x]
@@ -61,12 +66,29 @@ def sources():
     found += [b"#define a " + b"##b" * 256 + b"\n", b"#define a " + b"##b" * 257 + b"\n", b"#if ##\n" + b"## " * 3]
     return list(dict.fromkeys(found))
 
+# What is no beginning of a character, or ends like one behind something that is no character.
+BROKEN = [bytes.fromhex(x) for x in "80 BF C0 C1 F5 FF C080 E080 E09F EDA0 EDBF F080 F08F F490 F480C3 FFC3 C3C3 C3E9 E282E282 C3C3A9 E941".split()]
+
+def refused(found):
+    """Sources that all five calls refuse: by 10, and by 2."""
+    cuts, texts = sorted(cut.BEGINNINGS), [s for s in found if len(s) < 40 and not cut.rest(s)]
+    random.seed(3)
+    some = [b for b in cuts if len(b) < 3 and random.random() < 0.1 or random.random() < 0.02]
+    behind = [random.choice(texts) + b for b in some]
+    before = [b + random.choice(texts) + b"a" for b in some] + [b + c for b, c in zip(some, reversed(some))]
+    broken = BROKEN + [random.choice(texts) + b for b in BROKEN]
+    for source in broken + before:
+        assert not cut.ends_inside(source), source
+    for source in cuts + behind:
+        assert cut.ends_inside(source), source
+    return cuts + behind + before + broken
+
 def row(numbers):
     return " ∷ ".join(map(str, [*numbers, "[]"]))
 
 HEAD = """use mathlib.Core.Path.{_≡_, refl}
 use mathlib.Core.List.{List, [], _∷_}
-use Rattle.compared.specs.Shown.{read-as, body-as, tokens-as, lines-as, unescape-as, lookup-as, paste-as}
+use Rattle.compared.specs.Shown.{read-as, body-as, tokens-as, lines-as, unescape-as, lookup-as, paste-as, refused-as}
 
 """
 
@@ -106,6 +128,12 @@ lookup-as l o = let r = looking-up l o in r .refused ∷ r .line ∷ r .column �
 unfoldable pub paste-as : ℕ → ℕ → List ℕ
 unfolding refusal glued pasted-kind pasting
 paste-as a b = let r = pasting a b in r .refused ∷ r .kind ∷ []
+
+-- The five calls on each of the sources, with tables of that length.
+unfoldable pub refused-as : List (List ℕ) → ℕ → List ℕ
+unfolding read-as body-as tokens-as lines-as unescape-as
+refused-as [] room = []
+refused-as (s ∷ ss) room = read-as s room room room ++ (body-as s room ++ (tokens-as s room ++ (lines-as s room ++ (unescape-as s room ++ refused-as ss room))))
 """
 
 def tests(found):
@@ -139,9 +167,18 @@ def tests(found):
     out += [("paste", f"{a} {b}", x) for (a, b), x in zip(pairs, answers("paste", [b"%d %d" % p for p in pairs]))]
     return out
 
+def refused_tests(given):
+    """The same for sources that all five calls refuse, many at a time, with no table and with some."""
+    five = list(zip(*(answers(call, given) for call in SOURCE_CALLS)))
+    for at in range(0, len(given), AT_ONCE):
+        room = at // AT_ONCE % 3
+        want = [n for one in five[at:at + AT_ONCE] for a, tables in zip(one, (3, 1, 1, 1, 1)) for n in a + [0] * (tables * room)]
+        yield "refused", f"({row(f'({row(s)})' for s in given[at:at + AT_ONCE])}) {room}", want
+
 def main():
     found = sources()
-    all_tests = tests(found)
+    given = refused(found)
+    all_tests = tests(found) + list(refused_tests(given))
     shutil.rmtree(WORK, ignore_errors=True)
     specs = WORK / "crates/compared/specs"
     specs.mkdir(parents=True)
@@ -158,11 +195,11 @@ def main():
             f"t{i + k} : {call}-as {args} ≡ {row(want)}\nunfolding {call}-as\nt{i + k} = refl\n" for k, (call, args, want) in enumerate(all_tests[i:i + PER_FILE])))
     (specs / "Lib.antt").write_text("".join(f"pub mod {n}\n" for n in names))
     done = subprocess.run(["rt", "check", "compared"], cwd=WORK, stdout=subprocess.PIPE, stderr=subprocess.STDOUT, text=True, env={**os.environ, "RT_CUT": "0"})
-    counts = {c: sum(1 for t in all_tests if t[0] == c) for c in ("read", "body", "tokens", "lines", "unescape", "lookup", "paste")}
+    counts = {c: sum(1 for t in all_tests if t[0] == c) for c in (*SOURCE_CALLS, "lookup", "paste")}
     (WORK / "out").write_text(done.stdout)
     for line in re.findall(r"^.*: error.*$", done.stdout, re.M)[:20]:
         print(line[:600])
-    print(f"{len(found)} sources;", ", ".join(f"{c} {n}" for c, n in counts.items()), "outcomes compared:", "no difference" if done.returncode == 0 else "DIFFERENCES")
+    print(f"{len(found)} sources;", ", ".join(f"{c} {n}" for c, n in counts.items()), f"outcomes, and {len(given)} refused sources compared:", "no difference" if done.returncode == 0 else "DIFFERENCES")
     return done.returncode
 
 sys.exit(main())

@@ -5,10 +5,13 @@ usage: differences.py ORACLE
 
 ORACLE is the folder of the oracle, built (`cargo build --offline --release`). In an input ⏎ is byte 10 and «0B» the byte
 of that number; "2 times `a` and `b`" is aab; "kinds 1 and 3" are pasted, "offset 0, no line" is looked up. The exit
-status is 1 if a row names a kind or a refusal that none of its listings has, or is wrong about there being errors.
+status is 1 if a row names a kind or a refusal that none of its listings has, or is wrong about there being errors. A
+source that ends inside a character is listed with 10 (`cut.py`), where the Rust refuses it by 2.
 """
 import re, subprocess, sys
 from pathlib import Path
+
+import cut
 
 if len(sys.argv) != 2:
     sys.exit(__doc__)
@@ -30,7 +33,8 @@ def inputs(cell):  # How each stands in the paper, the words of its call, and th
 
 def listing(words, given):  # The tree with brackets, and errors and lines as they are; and whether there are errors.
     tree, depth, others, errors = "", 0, "", False
-    for line in subprocess.run([ORACLE, *words], input=given, stdout=subprocess.PIPE, check=True).stdout.decode().split():
+    rust = subprocess.run([ORACLE, *words], input=given, stdout=subprocess.PIPE, check=True).stdout.decode()
+    for line in cut.listing(rust, given).split():
         f = line.split(",")
         if f[0] in ("node", "leaf"):
             tree += ")" * (depth - int(f[2])) + f" {KINDS[f[1]]}" + "(" * (f[0] == "node")
@@ -49,7 +53,7 @@ for row in (TOP / "docs/DIFFERENCES.md").read_text().split("## What was compared
     runs = [(text, *listing(words, given)) for text, words, given in inputs(cell)]
     seen, errors = " ".join(r[1] for r in runs), any(r[2] for r in runs)
     bad = [k for k in KINDS.values() if re.search(rf"\b{k}\b", ours) and not re.search(rf"\b{k}\b", seen)]
-    bad += [f"refusal {n}" for n in re.findall(r"\((\d)\)", ours) if f"refusal {n};" not in seen]
+    bad += [f"refusal {n}" for n in re.findall(r"\((\d+)\)", ours) if f"refusal {n};" not in seen]
     bad += ["no error"] * ("no error" in ours and errors) + ["an error"] * ("is an error" in ours and not errors)
     wrong, count = wrong + bool(bad), count + len(runs)
     print(f"{theirs}\n    {ours}", *(f"        {text}  {shown}" for text, shown, _ in runs), *(f"        WRONG: {b}" for b in bad), sep="\n")

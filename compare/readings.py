@@ -6,17 +6,20 @@ usage: readings.py ORACLE CRATE
 ORACLE is the folder of the oracle, built. CRATE (crates/readings) gets data/NAME for each source, their names in args, and
 stdout: the listing of each source, or `long`, and then a line for each length of tables: refusal, counts, and how many
 numbers of each table are not 0 afterwards. Of tables that are too short, which the Rust does not have, it is document 01's
-answer.
+answer. A source that ends inside a character is refused by 10 (`cut.py`), where the Rust refuses it by 2.
 """
 import subprocess, sys
 from pathlib import Path
+
+import cut
 
 if len(sys.argv) != 3:
     sys.exit(__doc__)
 ORACLE, CRATE = Path(sys.argv[1]) / "target/release/oracle", Path(sys.argv[2])
 LONGEST = 512
 
-# The worked readings of document 01, sources that are not UTF-8, and 256 and 257 ## in each body, in a group and in text.
+# The worked readings of document 01, sources that are not UTF-8, 256 and 257 ## in each body, in a group and in text; sources that end
+# inside a character, and others that end as if they did.
 SOURCES = {
     "empty": b"", "hash": b"#", "pp_empty": b"#\n", "undef": b"#undef\nfoo\n", "group": b"#(a)\n", "stars": b"/***/", "digits": b"1.2.3",
     "backslash": b"abc\\d", "newlines": b"\n\r\n", "left_op": b"<<<", "comma": b"#define F(a,) a\n", "version": b"#version\ncore\n", "unknown": b"#a",
@@ -24,12 +27,17 @@ SOURCES = {
     "include": b"#include /*\n*/ <a\nb>\n", "comments": b"/*\n\r*/ a // b\n", "cut_off": b"#undef \xc3", "surrogate": b"\xed\xa0\x80\n", "concat_end": b"#if a ## b",
     **{f"{word}_{count}": b"#%s %s\n" % (word.encode(), b"##" * count) for word in ("include", "define a", "line", "error", "pragma", "if", "elif") for count in (256, 257)},
     "group_257": b"#(" + b"##" * 257 + b")\n", "text_257": b"##" * 257 + b"\n", "body_256": b"a##" * 256, "body_257": b"a##" * 257,
+    "cut_alone": b"\xe9", "cut_text": "a = b; // \xe9\n".encode() + b"\xe2\x82", "cut_comment": "/* \u20ac\n".encode() + b"\xf0\x9f\x98", "cut_directive": b"#a\n#define f(a) \xf4\x8f",
+    "cut_body": b"a ## \xe0\xa0", "cut_group": b"#(a\n\xed\x9f", "cut_string": b"#include <\xf0\x9f", "cut_257": b"#if " + b"##" * 257 + b"\n\xc3",
+    "latin_1": b"/* \xe9t\xe9 */\n", "latin_1_end": b"// caf\xe9",
+    **{"broken_" + end.hex("_"): end for end in (b"\xc3\xc3", b"\xff\xc3", b"\xc0", b"\xc1", b"\xf5", b"\xe0\x80", b"\xed\xa0", b"\xf0\x80", b"\xf4\x90")},
+    "broken_text": b"#undef a\n\xc3\xc3", "broken_257": b"#if " + b"##" * 257 + b"\n\xff\xc3",
 }
 SOURCES = {name.replace("define a", "define"): source for name, source in SOURCES.items()}
 
 def answered(call, source):
     """The listing of a call, and its numbers, line by line."""
-    listing = subprocess.run([str(ORACLE), call], input=source, stdout=subprocess.PIPE, check=True).stdout.decode()
+    listing = cut.listing(subprocess.run([str(ORACLE), call], input=source, stdout=subprocess.PIPE, check=True).stdout.decode(), source)
     return listing, [line.split(",") for line in listing.splitlines()]
 
 def row(words, *numbers):

@@ -15,11 +15,13 @@ is one byte, below 254; or 254 and two bytes; or 255 and four.
   paste: n is the first kind, the input the second (four bytes). Answer: refusal, kind.
 Tables are just long enough, and some longer or one number short, of a reading each alone and together. The Rust has no
 tables: what it does not use of one is 0, and of one that is too short document 01's answer is recorded, the refusal,
-counts of 0, and zeros.
+counts of 0, and zeros. It refuses a source that ends inside a character by 2, where 10 is recorded (`cut.py`).
 Nothing is left to chance: two runs write the same bytes.
 """
-import random, struct, subprocess, sys
+import itertools, random, struct, subprocess, sys
 from pathlib import Path
+
+import cut
 
 if len(sys.argv) != 3:
     sys.exit(__doc__)
@@ -45,6 +47,13 @@ ALPHABETS = [(r"\\ \n \r a 1", 4, (24, 24, 30)), (r"/ * \\ \n", 5, (40, 10, 8)),
 # What is not UTF-8: cut off, a surrogate, overlong, above the last character, bytes that stand nowhere.
 NOT_UTF8 = [b"\xc3", b"\xe2\x82", b"\xf0\x9f\x98", b"\xed\xa0\x80", b"\xed\xbf\xbf", b"\xc0\x80", b"\xc1\xbf", b"\xe0\x9f\xbf",
             b"\xf0\x8f\xbf\xbf", b"\xf4\x90\x80\x80", b"\xf5\x80\x80\x80", b"\xff", b"\x80", b"\xf8\x88\x80\x80\x80"]
+
+# Beginnings of characters at the end of a source, and ends that look like one.
+CUT_ENDS = [b"\xc3", b"\xe9", b"\xe2\x82", b"\xe0\xa0", b"\xed\x9f", b"\xf0\x9f", b"\xf0\x9f\x98", b"\xf4\x8f\xbf"]
+BROKEN_ENDS = [b"\xc3\xc3", b"\xff\xc3", b"\xc0", b"\xc1", b"\xf5", b"\xe0\x80", b"\xed\xa0", b"\xf0\x80", b"\xf4\x90", b"\xe9 ", b"\xe2\x82\n"]
+# What stands before them: nothing, text, characters, comments, directives, bodies; and before two of them, bodies of too many ##.
+FRONTS = [b"", b"a\n", "\xe9\u20ac\U0001f600".encode(), b"// ", b"a /*\n", b"#undef ", b"#define f(a) b", b"#if a ## ", b"#a\n#include <", b"a ## b\\\n"]
+LONG_FRONTS = [b"#if " + b"##" * 257 + b"\n", b"##" * 257]
 
 # The fourteen words, and what may stand behind one: right for some of them, wrong for others.
 WORDS = ["include", "define", "undef", "line", "error", "pragma", "version", "if", "ifdef", "ifndef", "elif", "else", "endif", "extension"]
@@ -85,7 +94,7 @@ def answers(call, inputs):
         word, *numbers = line.split(",")
         one += {"node": [1], "leaf": [0]}.get(word, [])
         if word == "end":
-            found.append(one)
+            found.append([cut.refusal(one[0], inputs[len(found)]), *one[1:]])
             one = []
         else:
             one += [int(n) for n in numbers if n]
@@ -244,10 +253,27 @@ def records():
             if 0 <= room:
                 yield "body", room, source, with_room("body", answer, room)
 
+def cut_records():
+    """The same of sources that end inside a character, or seem to: with as much room as the text before the end needs, less, and none."""
+    ends = {front + end: front for front in FRONTS for end in CUT_ENDS + BROKEN_ENDS}
+    ends |= {front + end: front for front in LONG_FRONTS for end in (CUT_ENDS[0], BROKEN_ENDS[0])}
+    for call in "tokens", "lines", "unescape", "read", "body":
+        needs = dict(zip(FRONTS + LONG_FRONTS, answers(call, FRONTS + LONG_FRONTS)))
+        for (source, front), (refusal, *counts) in zip(ends.items(), answers(call, list(ends))):
+            assert refusal == (cut.ENDS_INSIDE if source[len(front):] in CUT_ENDS else cut.NOT_UTF8) and not any(counts), source
+            if call == "read":
+                need = 5 * needs[front][1], 10 * needs[front][2], needs[front][3]
+                for rooms in dict.fromkeys((need, (max(need[0] - 1, 0), *need[1:]), (need[0], 0, 0), (0, 0, 0))):
+                    yield call, rooms[0], numbers(*rooms[1:]) + source, [refusal, 0, 0, 0] + [0] * sum(rooms)
+            else:
+                need = len(needs[front]) - 2
+                for room in dict.fromkeys((need, max(need - 1, 0), 0)):
+                    yield call, room, source, [refusal, 0] + [0] * room
+
 def main():
     random.seed(3)
     files, refusals = {}, {}
-    for call, n, given, answer in records():
+    for call, n, given, answer in itertools.chain(records(), cut_records()):
         assert len(answer) <= MOST_NUMBERS
         files.setdefault(call, []).append(struct.pack("<HI", len(given), n) + given + compact(*answer))
         found = refusals.setdefault(call, {})

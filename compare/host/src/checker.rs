@@ -8,7 +8,7 @@ use std::{
 use oracle::calls;
 
 use crate::{
-    damage,
+    cut, damage,
     exports::{self, Counted, Pasted, Place},
     lender::{Lender, Number},
     reading::Reader,
@@ -72,15 +72,15 @@ impl Checker {
         let Self { tally, random, numbers, bytes, .. } = self;
 
         let tokens = calls::tokens(source);
-        let want = tokens.as_ref().map(|t| (t.len(), t.as_flattened())).map_err(|&refusal| refusal);
+        let want = tokens.as_ref().map(|t| (t.len(), t.as_flattened())).map_err(|&rust| cut::refusal(rust, source));
         fills(tally, random, numbers, TOKENS, source, want, exports::tokens);
 
         let lines = calls::lines(source);
-        let want = lines.as_ref().map(|l| (l.len(), &l[..])).map_err(|&refusal| refusal);
+        let want = lines.as_ref().map(|l| (l.len(), &l[..])).map_err(|&rust| cut::refusal(rust, source));
         fills(tally, random, numbers, LINES, source, want, exports::line_table);
 
         let text = calls::unescape(source);
-        let want = text.as_ref().map(|t| (t.len(), t.as_bytes())).map_err(|&refusal| refusal);
+        let want = text.as_ref().map(|t| (t.len(), t.as_bytes())).map_err(|&rust| cut::refusal(rust, source));
         fills(tally, random, bytes, UNESCAPE, source, want, exports::unescape);
 
         if let Ok(lines) = lines {
@@ -166,7 +166,7 @@ pub(crate) fn fills<T: Number>(
         if got != want || unlike.is_some() || !untouched {
             difference(tally, call, || {
                 let mut text = format!("table of {room}, {}", shown(source));
-                write!(text, "\n  Rust     {want:?}\n  library  {got:?}").unwrap();
+                write!(text, "\n  wanted   {want:?}\n  library  {got:?}").unwrap();
                 write_unlike(&mut text, "the table", numbers, unlike, untouched);
                 text
             });

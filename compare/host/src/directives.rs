@@ -2,7 +2,12 @@
 
 use oracle::inputs;
 
-use crate::{checker::Checker, damage, jobs::Plan, large, Random};
+use crate::{
+    checker::Checker,
+    damage,
+    jobs::{short_sources, Plan},
+    large, Random,
+};
 
 /// Pieces, the longest row of them in a quick run and in a whole one, and what stands before
 const ALPHABETS: [(&str, usize, usize, &str); 40] = [
@@ -102,13 +107,12 @@ pub fn plan(plan: &mut Plan, quick: bool) {
         });
     }
 
-    plan.kind("reading/bytes", "reading: every source of at most 2 bytes");
+    let most =
+        if quick { "reading: every source of at most 2 bytes" } else { "reading: every source of at most 3 bytes" };
+    plan.kind("reading/bytes", most);
     plan.job(|checker| checker.reading(b""));
     for first in 0..=255 {
-        plan.job(move |checker| {
-            checker.reading(&[first]);
-            (0..=255).for_each(|second| checker.reading(&[first, second]));
-        });
+        plan.job(move |checker| short_sources(first, !quick, |source| checker.reading(source)));
     }
     plan.kind("reading/ascii", "reading: three ASCII bytes, alone and behind #");
     for first in (0..128).step_by(times(16, 1)) {
@@ -136,7 +140,7 @@ pub fn plan(plan: &mut Plan, quick: bool) {
         plan.job(move |checker| concats(checker, row, quick));
     }
 
-    plan.many("reading/damaged", "reading: not UTF-8, within text", times(10_000, 1_000_000), |checker, random| {
+    plan.many("reading/damaged", "reading: not UTF-8 or cut, in text", times(10_000, 1_000_000), |checker, random| {
         let mut source = pieces(random, 12);
         let place = random.below(source.len() + 1);
         source.splice(place..place, damage::not_utf8(random));
@@ -155,7 +159,7 @@ pub fn plan(plan: &mut Plan, quick: bool) {
 }
 
 /// Pieces one after another
-fn pieces(random: &mut Random, most: usize) -> Vec<u8> {
+pub fn pieces(random: &mut Random, most: usize) -> Vec<u8> {
     (0..random.below(most)).flat_map(|_| random.pick(&PIECES).bytes()).collect()
 }
 

@@ -4,6 +4,7 @@ use oracle::inputs;
 
 use crate::{
     checker::Checker,
+    cut_sources,
     damage::{self, BORDERS},
     directives, large, Random,
 };
@@ -106,6 +107,7 @@ pub fn plan(quick: bool, words: &[&str]) -> Option<Plan> {
     let mut plan = Plan::default();
     five_calls(&mut plan, quick);
     directives::plan(&mut plan, quick);
+    cut_sources::plan(&mut plan, quick);
     let Plan { kinds, jobs } = &mut plan;
     let known = |&word: &&str| kinds.iter().any(|kind| kind.is_asked_by(word));
     let asked = |kind: usize| words.iter().any(|word| kinds[kind].is_asked_by(word));
@@ -125,7 +127,7 @@ fn five_calls(plan: &mut Plan, quick: bool) {
     plan.kind("calls/short", if quick { "every source of at most 2 bytes" } else { "every source of at most 3 bytes" });
     plan.job(|checker| checker.source(b""));
     for first in 0..=255 {
-        plan.job(move |checker| short_sources(checker, first, !quick));
+        plan.job(move |checker| short_sources(first, !quick, |source| checker.source(source)));
     }
 
     plan.kind("calls/rows", "exhaustive over small alphabets");
@@ -143,12 +145,12 @@ fn five_calls(plan: &mut Plan, quick: bool) {
         plan.job(move |checker| characters(checker, from, step));
     }
 
-    plan.kind("calls/borders", "not UTF-8, by the borders of RFC 3629");
+    plan.kind("calls/borders", "not UTF-8 or cut, by the borders of RFC 3629");
     for first in BORDERS.into_iter().skip(times(14, 0)).step_by(times(4, 1)) {
         plan.job(move |checker| borders(checker, first));
     }
 
-    plan.many("calls/damaged", "not UTF-8, within text", times(10_000, 1_000_000), |checker, random| {
+    plan.many("calls/damaged", "not UTF-8 or cut, in text", times(10_000, 1_000_000), |checker, random| {
         let mut source = text(random, 12);
         let place = random.below(source.len() + 1);
         source.splice(place..place, damage::not_utf8(random));
@@ -183,12 +185,12 @@ fn five_calls(plan: &mut Plan, quick: bool) {
 }
 
 /// The source of that byte alone, and all that begin with it and have one byte more, or two
-fn short_sources(checker: &mut Checker, first: u8, three: bool) {
-    checker.source(&[first]);
+pub fn short_sources(first: u8, three: bool, mut compare: impl FnMut(&[u8])) {
+    compare(&[first]);
     for second in 0..=255 {
-        checker.source(&[first, second]);
+        compare(&[first, second]);
         for third in 0..if three { 256 } else { 0 } {
-            checker.source(&[first, second, third as u8]);
+            compare(&[first, second, third as u8]);
         }
     }
 }
@@ -217,7 +219,7 @@ fn borders(checker: &mut Checker, first: u8) {
 }
 
 /// Pieces one after another
-fn text(random: &mut Random, most: usize) -> Vec<u8> {
+pub fn text(random: &mut Random, most: usize) -> Vec<u8> {
     (0..random.below(most)).flat_map(|_| random.pick(&PIECES).bytes()).collect()
 }
 

@@ -43,7 +43,10 @@ pub fn sources(quick: bool) -> Vec<Source> {
         Box::new(|| repeated(b"\n", N + 1)),
         // Of both refusals the first is given
         Box::new(|| repeated(b"\xff", N + 1)),
+        Box::new(|| between(b"", b" ", b"\xc3", N + 1)),
+        // Cut, and broken at the end
         Box::new(|| between(b"", b" ", b"\xc3", N)),
+        Box::new(|| between(b"", b" ", b"\xc3\xc3", N)),
     ];
     if quick {
         return sources;
@@ -67,10 +70,13 @@ pub fn sources(quick: bool) -> Vec<Source> {
     ] {
         sources.push(Box::new(move || between(begin.as_bytes(), piece.as_bytes(), end.as_bytes(), N)));
     }
-    // Wrong at the first byte, in the middle and at the last
+    // Wrong at the first byte, in the middle and at the last; wrong in front and cut; cut
     sources.push(Box::new(|| between(b"\x80", b"a", b"", N)));
     sources.push(Box::new(|| between(&repeated(b"a", N / 2), b"\xed\xa0\x80", b"", N)));
+    sources.push(Box::new(|| between(b"", b"a\n", b"\xf0\x80", N)));
+    sources.push(Box::new(|| between(b"\xe2", b"\n", b"\xe2\x82", N)));
     sources.push(Box::new(|| between(b"", b"a\n", b"\xf0\x9f\x98", N)));
+    sources.push(Box::new(|| between(b"", "\u{20ac}".as_bytes(), b"\xe2\x82", N)));
     sources.push(Box::new(|| repeated(b"a", N - 1)));
     sources
 }
@@ -119,7 +125,7 @@ pub fn directives(bytes: usize) -> Vec<Source> {
     sources
 }
 
-/// Sources to read, as long as is read or one byte longer: some of those above, text, and what is not UTF-8
+/// Sources to read, as long as is read or one byte longer: some of those above, text, and what is not UTF-8 or cut
 pub fn readings(quick: bool) -> Vec<Source> {
     const N: usize = MAX_BYTES;
     let mut sources: Vec<Source> = vec![
@@ -128,8 +134,11 @@ pub fn readings(quick: bool) -> Vec<Source> {
         Box::new(|| repeated(b"#a\n", N + 1)),
         // Of both refusals the first is given
         Box::new(|| repeated(b"\xff", N + 1)),
+        Box::new(|| between(b"", b"#a\n", b"\xc3", N + 1)),
         Box::new(|| between(b"\x80", b"#a\n", b"", N)),
+        // Cut, and broken at the end
         Box::new(|| between(b"", b"#else a\n", b"\xc3", N)),
+        Box::new(|| between(b"", b"#else a\n", b"\xff\xc3", N)),
     ];
     sources.extend(directives(N).into_iter().step_by(if quick { 100 } else { 3 }));
     sources

@@ -2,6 +2,8 @@
 
 pub mod checker;
 pub mod claims;
+pub mod cut;
+pub mod cut_sources;
 pub mod damage;
 pub mod directives;
 pub mod exports;

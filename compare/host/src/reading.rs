@@ -6,7 +6,7 @@ use oracle::calls::{self, Entry};
 
 use crate::{
     checker::{difference, fills, shown, write_unlike, Checker, BODY, READ},
-    claims,
+    claims, cut,
     exports::{self, Reading},
     lender::Lender,
     Random,
@@ -45,7 +45,7 @@ impl Wanted {
     fn ask(&mut self, source: &[u8]) {
         let (_, answer) = calls::read(source);
         self.tables.iter_mut().for_each(Vec::clear);
-        self.refusal = answer.as_ref().err().copied().unwrap_or(0);
+        self.refusal = answer.as_ref().err().map_or(0, |&rust| cut::refusal(rust, source));
         let Ok(reading) = answer else {
             return;
         };
@@ -124,7 +124,7 @@ impl Checker {
         if got != want || unlike != [None; 3] || untouched != [true; 3] {
             difference(&mut self.tally, READ, || {
                 let mut text = format!("tables of {rooms:?}, {}", shown(source));
-                write!(text, "\n  Rust     {want:?}\n  library  {got:?}").unwrap();
+                write!(text, "\n  wanted   {want:?}\n  library  {got:?}").unwrap();
                 for table in 0..3 {
                     write_unlike(&mut text, TABLES[table], numbers(table), unlike[table], untouched[table]);
                 }
@@ -141,7 +141,7 @@ impl Checker {
     fn body(&mut self, source: &[u8]) {
         let (_, answer) = calls::body(source);
         let Self { tally, random, numbers, reader, .. } = self;
-        let want = answer.as_ref().map_err(|&refusal| refusal).map(|entries| {
+        let want = answer.as_ref().map_err(|&rust| cut::refusal(rust, source)).map(|entries| {
             put_entries(&mut reader.body, entries);
             (entries.len(), &reader.body[..])
         });

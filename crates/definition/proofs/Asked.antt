@@ -38,18 +38,30 @@ looked l = l .refused ∷ l .line ∷ l .column ∷ []
 abbrev pasted-as : Pasted → List ℕ
 pasted-as p = p .refused ∷ p .kind ∷ []
 
--- A call with a table just long enough: a body, the tokens, the line table, the unescaped text.
+-- A call with a table just long enough: a body, the tokens, the line table, the unescaped text; of bytes, and of a text.
+abbrev bodies-of : List ℕ → List ℕ → Asked
+bodies-of s n = asks (shown (reading-body s (length n - 2))) n
+
+abbrev lists-of : List ℕ → List ℕ → Asked
+lists-of s n = asks (shown (listing-tokens s (length n - 2))) n
+
+abbrev breaks-of : List ℕ → List ℕ → Asked
+breaks-of s n = asks (shown (building-lines s (length n - 2))) n
+
+abbrev unescapes-of : List ℕ → List ℕ → Asked
+unescapes-of s n = asks (shown (unescaping s (length n - 2))) n
+
 abbrev bodies : String → List ℕ → Asked
-bodies s n = asks (shown (reading-body (ascii s) (length n - 2))) n
+bodies s n = bodies-of (ascii s) n
 
 abbrev lists : String → List ℕ → Asked
-lists s n = asks (shown (listing-tokens (ascii s) (length n - 2))) n
+lists s n = lists-of (ascii s) n
 
 abbrev breaks : String → List ℕ → Asked
-breaks s n = asks (shown (building-lines (ascii s) (length n - 2))) n
+breaks s n = breaks-of (ascii s) n
 
 abbrev unescapes : String → List ℕ → Asked
-unescapes s n = asks (shown (unescaping (ascii s) (length n - 2))) n
+unescapes s n = unescapes-of (ascii s) n
 
 -- Refusal and count.
 abbrev answer : ℕ → ℕ → List ℕ
@@ -163,6 +175,26 @@ define-bodies =
     bodies "#include <a>" (answer 0 7 ++ node K.PP_DEFINE_BODY 0 0 12 ++ leaf K.HASH 1 0 1 ++ leaf K.IDENT_KW 1 1 8 ++ leaf K.WS 1 8 9
     ++ leaf K.LANGLE 1 9 10 ++ leaf K.IDENT_KW 1 10 11 ++ leaf K.RANGLE 1 11 12) ∷ []
 
+-- Cut inside a character, and broken: where no character stands whole, the rest of the source is not the beginning of one.
+abbrev cut-or-broken : List Asked
+cut-or-broken =
+    bodies-of (0xE9 ∷ []) (answer 10 0) ∷
+    bodies-of (ascii "a" ++ (0xE2 ∷ 0x82 ∷ [])) (answer 10 0) ∷
+    bodies-of (0xC3 ∷ 0xC3 ∷ []) (answer 2 0) ∷
+    bodies-of (0xFF ∷ 0xC3 ∷ []) (answer 2 0) ∷
+    lists-of (0xE9 ∷ []) (answer 10 0) ∷
+    lists-of (ascii "a" ++ (0xE2 ∷ 0x82 ∷ [])) (answer 10 0) ∷
+    lists-of (0xC3 ∷ 0xC3 ∷ []) (answer 2 0) ∷
+    lists-of (0xFF ∷ 0xC3 ∷ []) (answer 2 0) ∷
+    breaks-of (0xE9 ∷ []) (answer 10 0) ∷
+    breaks-of (ascii "a" ++ (0xE2 ∷ 0x82 ∷ [])) (answer 10 0) ∷
+    breaks-of (0xC3 ∷ 0xC3 ∷ []) (answer 2 0) ∷
+    breaks-of (0xFF ∷ 0xC3 ∷ []) (answer 2 0) ∷
+    unescapes-of (0xE9 ∷ []) (answer 10 0) ∷
+    unescapes-of (ascii "a" ++ (0xE2 ∷ 0x82 ∷ [])) (answer 10 0) ∷
+    unescapes-of (0xC3 ∷ 0xC3 ∷ []) (answer 2 0) ∷
+    unescapes-of (0xFF ∷ 0xC3 ∷ []) (answer 2 0) ∷ []
+
 -- Line tables and unescaped texts.
 abbrev lines-and-texts : List Asked
 lines-and-texts =
@@ -192,6 +224,7 @@ tables =
     asks (shown (building-lines (0x80 ∷ []) 0)) (answer 2 0) ∷
     asks (shown (unescaping (ascii "ab") 4)) (answer 0 2 ++ ascii "ab" ++ zeros 2) ∷
     asks (shown (unescaping (ascii "ab") 1)) (answer 8 0 ++ zeros 1) ∷
+    asks (shown (unescaping (0x80 ∷ []) 0)) (answer 2 0) ∷
     asks (shown (unescaping (0xC2 ∷ []) 0)) (answer 10 0) ∷
     asks (shown (reading-body (ascii "") 7)) (answer 0 1 ++ node K.PP_DEFINE_BODY 0 0 0 ++ zeros 2) ∷
     asks (shown (reading-body (ascii "") 4)) (answer 4 0 ++ zeros 4) ∷
@@ -202,6 +235,16 @@ tables =
     asks (read (reading (ascii "#a") 25 9 0)) (counts 5 0 0 0 ++ zeros 34) ∷
     asks (read (reading (ascii "#a") 24 9 2)) (counts 4 0 0 0 ++ zeros 35) ∷
     asks (read (reading (ascii "#if\n#if" ++ concats 257) 4 0 0)) (counts 3 0 0 0 ++ zeros 4) ∷ []
+
+-- A source that ends inside a character is refused for that, whatever its bodies and the tables are.
+abbrev cut-tables : List Asked
+cut-tables =
+    asks (shown (listing-tokens (ascii "a" ++ (0xC2 ∷ [])) 2)) (answer 10 0 ++ zeros 2) ∷
+    asks (shown (building-lines (ascii "\n" ++ (0xE2 ∷ 0x82 ∷ [])) 1)) (answer 10 0 ++ zeros 1) ∷
+    asks (shown (unescaping (ascii "ab" ++ (0xF0 ∷ 0x9F ∷ 0x98 ∷ [])) 1)) (answer 10 0 ++ zeros 1) ∷
+    asks (shown (reading-body (concats 257 ++ (0xC3 ∷ [])) 4)) (answer 10 0 ++ zeros 4) ∷
+    asks (read (reading (ascii "#a" ++ (0xE2 ∷ [])) 24 9 0)) (counts 10 0 0 0 ++ zeros 33) ∷
+    asks (read (reading (ascii "#if" ++ concats 257 ++ (10 ∷ 0xC3 ∷ [])) 4 0 0)) (counts 10 0 0 0 ++ zeros 4) ∷ []
 
 -- How many ## each body holds, of the seven words with one; extra tokens, text, groups and arguments are none.
 abbrev counts-of-concats : List Asked
@@ -231,7 +274,7 @@ pastes =
     asks (pasted-as (pasting 1 87)) (9 ∷ 0 ∷ []) ∷ asks (pasted-as (pasting 87 1)) (9 ∷ 0 ∷ []) ∷ []
 
 unfoldable pub asked : List Asked
-asked = numbers ++ names ++ comments ++ strings ++ blanks ++ others ++ operators ++ define-bodies ++ lines-and-texts ++ tables ++ counts-of-concats ++ lookups ++ pastes
+asked = numbers ++ names ++ comments ++ strings ++ blanks ++ others ++ operators ++ define-bodies ++ cut-or-broken ++ lines-and-texts ++ tables ++ cut-tables ++ counts-of-concats ++ lookups ++ pastes
 
 -- Whether each call leaves these numbers.
 unfoldable pub all-answered : List Asked → Bool

@@ -1,6 +1,6 @@
 -- Recorded answers of the Rust, for what the worked readings leave open (`compare/pins.py` writes them).
 use mathlib.Core.Path.{_≡_, refl}
-use Rattle.definition.specs.Text.{true, List, [], _∷_, _++_}
+use Rattle.definition.specs.Text.{ℕ, true, List, [], _∷_, _++_, ascii}
 use Rattle.definition.specs.SyntaxKind.{Kind as K}
 use Rattle.definition.specs.Listed.{listed}
 use Rattle.definition.proofs.Worked.{Worked, reads, answer, node, leaf, error, line, all-listed}
@@ -317,8 +317,37 @@ places =
     ++ leaf K.IDENT_KW 2 7 11 ++ leaf K.WS 2 11 12 ++ node K.ERROR 2 12 13 ++ leaf K.IDENT_KW 3 12 13 ++ error 2 12 13 1 8 0 0 0 7 11
     ++ line 0 ++ line 4) ∷ []
 
+-- A source that is not a text of ASCII.
+abbrev reads-of : List ℕ → List ℕ → Worked
+reads-of s n = record { source = s; numbers = n }
+
+-- Sources that end inside a character.
+abbrev cut-off : List Worked
+cut-off =
+    reads-of (0xE9 ∷ []) (answer 10 0 0 0) ∷
+    reads-of (ascii "a" ++ (0xE2 ∷ 0x82 ∷ [])) (answer 10 0 0 0) ∷
+    reads-of (ascii "#undef " ++ (0xC3 ∷ [])) (answer 10 0 0 0) ∷
+    reads-of (ascii "//" ++ (0xF0 ∷ 0x9F ∷ 0x98 ∷ [])) (answer 10 0 0 0) ∷
+    reads-of (ascii "#define a " ++ (0xC3 ∷ 0xA9 ∷ 0xC3 ∷ [])) (answer 10 0 0 0) ∷
+    reads-of (0xF4 ∷ 0x8F ∷ 0xBF ∷ []) (answer 10 0 0 0) ∷ []
+
+-- Sources that are not UTF-8 and not cut: other bytes at the end, and the beginning of a character before other bytes.
+abbrev broken : List Worked
+broken =
+    reads-of (0xC0 ∷ []) (answer 2 0 0 0) ∷
+    reads-of (0xC1 ∷ []) (answer 2 0 0 0) ∷
+    reads-of (0xF5 ∷ []) (answer 2 0 0 0) ∷
+    reads-of (0xE0 ∷ 0x80 ∷ []) (answer 2 0 0 0) ∷
+    reads-of (0xED ∷ 0xA0 ∷ []) (answer 2 0 0 0) ∷
+    reads-of (0xF0 ∷ 0x80 ∷ []) (answer 2 0 0 0) ∷
+    reads-of (0xF4 ∷ 0x90 ∷ []) (answer 2 0 0 0) ∷
+    reads-of (0xC3 ∷ 0xC3 ∷ []) (answer 2 0 0 0) ∷
+    reads-of (0xFF ∷ 0xC3 ∷ []) (answer 2 0 0 0) ∷
+    reads-of (0xE9 ∷ 0x20 ∷ []) (answer 2 0 0 0) ∷
+    reads-of ((0xC3 ∷ []) ++ ascii "\n#a\n") (answer 2 0 0 0) ∷ []
+
 unfoldable pub recorded : List Worked
-recorded = words ++ ends ++ args ++ trivia ++ unknowns ++ concats ++ places
+recorded = words ++ ends ++ args ++ trivia ++ unknowns ++ concats ++ places ++ cut-off ++ broken
 
 pub recorded-listed : all-listed recorded ≡ true
 unfolding all-listed recorded listed

@@ -16,6 +16,7 @@ use std::{
 
 use host::{
     checker::{Checker, Tally, CALLS},
+    cut,
     jobs::{self, plan, Plan, Work},
 };
 
@@ -61,6 +62,7 @@ fn usage() -> Plan {
 }
 
 fn compare_files(files: &[&str]) -> Tally {
+    cut::hold();
     let (mut checker, mut total) = (Checker::default(), Tally::default());
     for (place, file) in files.iter().enumerate() {
         let source = std::fs::read(file).unwrap_or_else(|e| panic!("{file}: {e}"));
@@ -76,6 +78,7 @@ fn compare_files(files: &[&str]) -> Tally {
 /// Runs the jobs on two threads. Large sources are the first thread's work, and the other takes part in it only
 /// when nothing else is left.
 fn run(plan: Plan) -> Tally {
+    cut::hold();
     let start = Instant::now();
     let kind = |about| Kind { about, tally: Tally::default(), work: Duration::ZERO, open: 0 };
     let mut kinds: Vec<Kind> = plan.kinds.into_iter().map(kind).collect();
