@@ -30,9 +30,9 @@ extern "C" {
 #endif
 
 /* The version of this header and of the library that it was delivered with. */
-#define SHADER_READER_VERSION "0.1.0"
+#define SHADER_READER_VERSION "0.2.0"
 #define SHADER_READER_VERSION_MAJOR 0
-#define SHADER_READER_VERSION_MINOR 1
+#define SHADER_READER_VERSION_MINOR 2
 #define SHADER_READER_VERSION_PATCH 0
 
 /* The longest source, in bytes. */
@@ -46,18 +46,20 @@ extern "C" {
  * first call, the dynamic linker takes some 3,300 once. */
 #define SHADER_STACK_BYTES 98304
 
-/* Why a call is refused. Of several reasons the smallest number is given. */
+/* Why a call is refused. Of several reasons the one that is checked first is given, which need not be the smallest
+ * number: 10 is checked with 2, before 3. The calls list their refusals in checking order. */
 enum shader_refusal {
     SHADER_REFUSAL_NONE = 0,    /* accepted */
     SHADER_REFUSAL_LENGTH = 1,  /* the source or text is longer than SHADER_SOURCE_LIMIT; it was not looked at */
-    SHADER_REFUSAL_UTF8 = 2,    /* it is not UTF-8 (RFC 3629) */
+    SHADER_REFUSAL_UTF8 = 2,    /* it is not UTF-8 (RFC 3629), and not for its end alone */
     SHADER_REFUSAL_CONCATS = 3, /* a body holds more than SHADER_CONCAT_LIMIT ## */
     SHADER_REFUSAL_ENTRIES = 4, /* the entry table or the token table is too short: lend a longer one */
     SHADER_REFUSAL_ERRORS = 5,  /* the error table is too short: lend a longer one */
     SHADER_REFUSAL_LINES = 6,   /* the line table is too short: lend a longer one */
     SHADER_REFUSAL_LOOKUP = 7,  /* the line table that is looked up in does not start at 0, or does not rise */
     SHADER_REFUSAL_OUTPUT = 8,  /* the output of unescaping is too short: lend a longer one */
-    SHADER_REFUSAL_KIND = 9     /* a kind to paste is 0, SHADER_KIND_LINECONT or above SHADER_KIND_ROOT */
+    SHADER_REFUSAL_KIND = 9,    /* a kind to paste is 0, SHADER_KIND_LINECONT or above SHADER_KIND_ROOT */
+    SHADER_REFUSAL_CUT = 10     /* it is UTF-8 up to its end, where a character begins that is not whole */
 };
 
 /* Kinds of leaves, tokens and nodes. SHADER_KIND_ERROR is the kind of leaves and of nodes. */
@@ -196,22 +198,22 @@ typedef struct { uint32_t refusal, line, column; } shader_place;
 typedef struct { uint32_t refusal, kind; } shader_pasted;
 
 /* Reads a source: its tree, its errors, and the offset where each line starts. A source without errors keeps the
- * directive grammar, and one with errors breaks it. Refusals: 1 to 6. */
+ * directive grammar, and one with errors breaks it. Refusals: 1, 2, 10, 3, 4, 5, 6. */
 shader_reading shader_read(const uint8_t *src, size_t bytes, uint32_t *entries, size_t entry_room, uint32_t *errors,
                            size_t error_room, uint32_t *lines, size_t line_room);
 
 /* Reads a define body, what stands before the first newline: a tree under a PP_DEFINE_BODY, without a ROOT. The count
- * is of entries; 5 * (2 * bytes + 1) numbers always suffice. Refusals: 1 to 4. */
+ * is of entries; 5 * (2 * bytes + 1) numbers always suffice. Refusals: 1, 2, 10, 3, 4. */
 shader_counted shader_define_body(const uint8_t *src, size_t bytes, uint32_t *entries, size_t room);
 
-/* Lists the tokens of a source. 3 * bytes numbers always suffice. Refusals: 1, 2, 4. */
+/* Lists the tokens of a source. 3 * bytes numbers always suffice. Refusals: 1, 2, 10, 4. */
 shader_counted shader_tokens(const uint8_t *src, size_t bytes, uint32_t *tokens, size_t room);
 
-/* The offset where each line starts. bytes + 1 numbers always suffice. Refusals: 1, 2, 6. */
+/* The offset where each line starts. bytes + 1 numbers always suffice. Refusals: 1, 2, 10, 6. */
 shader_counted shader_line_table(const uint8_t *src, size_t bytes, uint32_t *lines, size_t room);
 
 /* The text without its continuations (a backslash with the newline behind it). The count is of bytes; as many as the
- * text has always suffice. Refusals: 1, 2, 8. */
+ * text has always suffice. Refusals: 1, 2, 10, 8. */
 shader_counted shader_unescape(const uint8_t *text, size_t bytes, uint8_t *output, size_t room);
 
 /* Line and column of an offset, past the end of the source too. `lines` has the line starts alone, as many as were
@@ -240,6 +242,32 @@ static inline shader_place shader_find_line(const uint32_t *lines, size_t count,
     place.line = low & UINT32_MAX;
     place.column = offset - lines[low];
     return place;
+}
+
+/* How long the character (RFC 3629) at the front of at least one byte is; 0 if no whole one stands there. */
+static inline size_t shader_utf8_character(const uint8_t *src, size_t bytes) {
+    uint8_t first = src[0];
+    uint8_t low = first == 0xE0 ? 0xA0 : first == 0xF0 ? 0x90 : 0x80;
+    uint8_t high = first == 0xED ? 0x9F : first == 0xF4 ? 0x8F : 0xBF;
+    size_t length = first < 0x80 ? 1 : first < 0xE0 ? 2 : first < 0xF0 ? 3 : 4;
+    if ((first >= 0x80 && first < 0xC2) || first > 0xF4 || bytes < length) return 0;
+    if (length > 1 && (src[1] < low || src[1] > high)) return 0;
+    for (size_t i = 2; i < length; i++) {
+        if (src[i] < 0x80 || src[i] > 0xBF) return 0;
+    }
+    return length;
+}
+
+/* Where a source stops being UTF-8: the offset of the first byte at which no whole character stands, `bytes` if none is
+ * bad. After SHADER_REFUSAL_UTF8 that is the first bad byte, after SHADER_REFUSAL_CUT the first byte of the character
+ * that was cut. */
+static inline size_t shader_utf8_error(const uint8_t *src, size_t bytes) {
+    size_t at = 0, length = 1;
+    while (at < bytes && length > 0) {
+        length = shader_utf8_character(src + at, bytes - at);
+        at += length;
+    }
+    return at;
 }
 
 /* Sizes. Lengths of the three tables of shader_read, in numbers. A source above SHADER_SOURCE_LIMIT, which is refused
@@ -379,6 +407,7 @@ static inline const char *shader_refusal_text(uint32_t refusal) {
     case SHADER_REFUSAL_LOOKUP: return "the line table does not start at 0, or does not rise";
     case SHADER_REFUSAL_OUTPUT: return "the output is too short";
     case SHADER_REFUSAL_KIND: return "a kind is 0, 35 or above 86";
+    case SHADER_REFUSAL_CUT: return "the file ends inside a character: the upload was cut";
     default: return "unknown refusal";
     }
 }

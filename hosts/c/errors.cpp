@@ -8,6 +8,7 @@
 #include <fstream>
 #include <iostream>
 #include <iterator>
+#include <sstream>
 #include <string>
 #include <vector>
 
@@ -47,6 +48,17 @@ static std::string sentence(const shader_error &error, const std::vector<std::ui
     return text;
 }
 
+// Why a source is refused, and where it stops being UTF-8 if that is why.
+static std::string reason(std::uint32_t refusal, const std::vector<std::uint8_t> &src) {
+    std::ostringstream text;
+    std::size_t at = shader_utf8_error(src.data(), src.size());
+    text << shader_refusal_text(refusal);
+    if (refusal == SHADER_REFUSAL_UTF8)
+        text << ": byte 0x" << std::hex << std::uppercase << +src[at] << std::dec << " at offset " << at;
+    if (refusal == SHADER_REFUSAL_CUT) text << ", the character begins at offset " << at;
+    return text.str();
+}
+
 int main(int argc, char **argv) {
     std::ifstream file;
     if (argc == 2) file.open(argv[1], std::ios::binary);
@@ -56,7 +68,7 @@ int main(int argc, char **argv) {
     }
     std::vector<std::uint8_t> src((std::istreambuf_iterator<char>(file)), std::istreambuf_iterator<char>());
     Reading got = read(src);
-    if (got.answer.refusal) std::cout << argv[1] << ": refused: " << shader_refusal_text(got.answer.refusal) << '\n';
+    if (got.answer.refusal) std::cout << argv[1] << ": refused: " << reason(got.answer.refusal, src) << '\n';
     for (std::uint32_t i = 0; i < got.answer.errors; i++) {
         shader_error error = shader_error_at(got.errors.data(), i);
         std::cout << argv[1] << ':' << error.line + 1 << ':' << error.column + 1 << ": ";

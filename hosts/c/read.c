@@ -115,6 +115,15 @@ static uint32_t print_tokens(source src) {
     return answer.refusal;
 }
 
+/* Why a source is refused, and where it stops being UTF-8 if that is why. */
+static void print_refusal(const char *name, source src, uint32_t refusal) {
+    size_t at = shader_utf8_error(src.bytes, src.count);
+    fprintf(stderr, "%s: refused: %s", name, shader_refusal_text(refusal));
+    if (refusal == SHADER_REFUSAL_UTF8) fprintf(stderr, ": byte 0x%02X at offset %zu", src.bytes[at], at);
+    if (refusal == SHADER_REFUSAL_CUT) fprintf(stderr, ", the character begins at offset %zu", at);
+    fputc('\n', stderr);
+}
+
 int main(int argc, char **argv) {
     int listing = argc == 3 && strcmp(argv[1], "listing") == 0;
     if (!listing && !(argc == 3 && strcmp(argv[1], "tokens") == 0)) {
@@ -123,8 +132,8 @@ int main(int argc, char **argv) {
     }
     source src = whole_file(argv[2]);
     uint32_t refusal = listing ? print_listing(src) : print_tokens(src);
+    if (refusal) print_refusal(argv[2], src, refusal);
     free(src.bytes);
-    if (refusal) fprintf(stderr, "%s: refused: %s\n", argv[2], shader_refusal_text(refusal));
     if (fflush(stdout) != 0 || ferror(stdout)) stop("standard output", "it can't be written");
     return refusal != 0;
 }

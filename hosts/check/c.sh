@@ -1,8 +1,9 @@
 # C and C++: the header alone, the tests of hosts/c/tests, the two programs of hosts/c; a part of hosts/check/run.
 strict="-Wall -Wextra -Wpedantic -Werror -Iinclude"
 sanitizers="address and undefined-behaviour sanitizers"
+cut="the file ends inside a character: the upload was cut"
 sanitize="-g -fsanitize=address,undefined -fno-sanitize-recover=all"
-tests="calls null search inlines threads"
+tests="calls null search inlines threads utf8"
 runner=
 
 # Compiles a test and runs it: test_with COMPILER TEST [FLAGS..]. `inlines` is told the samples, for which the guess must
@@ -39,6 +40,17 @@ errors_of_samples() {
     [ -z "$("$work/errors" examples/layer_mask.frag)" ] && "$work/errors" examples/three_lines.frag
 }
 
+# Of a source that is refused it says why, and where the source stops being UTF-8: error_of BYTES WORDS
+error_of() {
+    printf "$1" >"$work/source"
+    said=$("$work/errors" "$work/source")
+    [ $? -eq 1 ] && [ "$said" = "$work/source: refused: $2" ] || { echo "$said"; return 1; }
+}
+errors_of_refused() {
+    error_of 'a\nb\351c' 'not UTF-8: byte 0xE9 at offset 3' || return 1
+    error_of 'a\nb\344\270' "$cut, the character begins at offset 3"
+}
+
 for c in gcc clang; do
     needs $c "C with $c" || continue
     try "$c: the header, C99 to C17" header_alone $c c "c99 c11 c17"
@@ -52,6 +64,7 @@ for c in g++ clang++; do
     suite "$c -O2" $c plus -O2
     can "$c, $sanitizers" $c $sanitize && suite "$c, $sanitizers" $c plus $sanitize
     try "$c: errors of the samples" errors_of_samples $c
+    try "$c: errors of refused sources" errors_of_refused
 done
 can "gcc -static" gcc -static && suite "gcc -static" gcc "$tests stack" -O2 -static
 if needs musl-gcc "C with musl"; then

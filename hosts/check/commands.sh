@@ -56,6 +56,9 @@ printed "$work/listing"
 printf '\377' >"$odd"
 run 2 make read FILE="$odd"
 echo answer,2,0,0,0 | diff - "$work/out"
+printf '// caf\303' >"$odd"
+run 2 make read FILE="$odd"
+echo answer,10,0,0,0 | diff - "$work/out"
 calls 1
 
 # The library outlives target/, and is proved again when a crate has changed.

@@ -23,11 +23,12 @@ rows_to_lend() {
     "$work/rooms" | diff hosts/c/tests/rooms.txt -
 }
 
-# The version of the header and of the cargo packages is one.
+# The version of the header, of the cargo packages and of the newest changes is one.
 one_version() {
     version=$(sed -n 's/^#define SHADER_READER_VERSION "\(.*\)"/\1/p' include/shader_reader.h)
     parts=$(sed -n 's/^#define SHADER_READER_VERSION_[A-Z]* \([0-9]*\)$/\1/p' include/shader_reader.h | paste -sd .)
     [ "$version" = "$parts" ] || { echo "$version in the header, and $parts"; return 1; }
+    [ "$(sed -n '/^## /{s///p;q;}' CHANGELOG.md)" = "$version" ] || { echo "not $version in CHANGELOG.md"; return 1; }
     for manifest in hosts/*/Cargo.toml; do
         [ -f "$manifest" ] || continue
         grep -q "^version = \"$version\"" "$manifest" || { echo "not $version in $manifest"; return 1; }

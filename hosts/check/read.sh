@@ -14,6 +14,15 @@ expect() {
 
 says() { [ "$(cat "$work/out")" = "$1" ] || { echo "not \"$1\":"; head -n 5 "$work/out"; exit 1; }; }
 
+# refused NUMBER WORDS: what it says of the source.
+refused() {
+    expect 1 "$read" listing "$work/source"
+    says "answer,$1,0,0,0"
+    expect 1 "$read" tokens "$work/source"
+    says "refused: $1"
+    [ "$(cat "$work/err")" = "$work/source: refused: $2" ] || { echo "not \"$2\":"; cat "$work/err"; exit 1; }
+}
+
 # The sources of the program `readings`, with their listings out of what it prints.
 for name in $(cat crates/readings/args); do
     awk -v name="$name" '
@@ -39,13 +48,20 @@ yes '#a' | head -n 500000 >"$work/source"
 expect 0 "$read" listing "$work/source"
 [ "$(head -n 1 "$work/out")" = "answer,0,2500001,500000,500001" ] || { head -n 1 "$work/out"; exit 1; }
 head -c 16777217 /dev/zero >"$work/source"
-expect 1 "$read" listing "$work/source"
-says 'answer,1,0,0,0'
+refused 1 'longer than 16777216 bytes'
+
+# What is not UTF-8, or ends inside a character.
+printf '\377' >"$work/source"
+refused 2 'not UTF-8: byte 0xFF at offset 0'
+printf 'caf\351 au lait\303' >"$work/source"
+refused 2 'not UTF-8: byte 0xE9 at offset 3'
+cut='the file ends inside a character: the upload was cut'
+printf '\303' >"$work/source"
+refused 10 "$cut, the character begins at offset 0"
+{ yes '#a' | head -n 50000; printf '\360\237\230'; } >"$work/source"
+refused 10 "$cut, the character begins at offset 150000"
 
 # What can't be read, written or understood.
-printf '\377' >"$work/source"
-expect 1 "$read" listing "$work/source"
-says 'answer,2,0,0,0'
 expect 2 "$read" listing "$work/nothing"
 expect 2 "$read" listing "$work"
 expect 2 "$read"

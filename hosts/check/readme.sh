@@ -26,6 +26,8 @@ cpp)
     program cpp >"$work/check.cpp"
     g++ -std=c++11 $strict "$work/check.cpp" "$library" -o "$work/check"
     says '103 entries, 8 errors, 12 lines' "$work/check" examples/errors.frag
+    printf '// caf\303' >"$work/cut"
+    says '0 entries, 0 errors, 0 lines' timeout 60 "$work/check" "$work/cut"
     ;;
 rust)
     rm -rf reading

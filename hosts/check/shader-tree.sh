@@ -25,6 +25,12 @@ status 2 --check "$work/nothing"
 status 2 --no-such-word
 printf 'a\377' >"$work/latin"
 status 1 --check "$work/latin"
+grep -q ':1:2: error: not UTF-8: byte 0xFF at offset 1$' "$work/err"
+printf 'a\303' >"$work/cut"
+status 1 --check "$work/cut"
+grep -q ':1:2: error: the file ends inside a character: the upload was cut' "$work/err"
+status 1 --listing "$work/cut"
+echo answer,10,0,0,0 | diff - "$work/out"
 head -c 16777217 /dev/zero >"$work/long"
 status 1 --check "$work/long"
 if "$tree" examples/layer_mask.frag >/dev/full 2>"$work/err"; then echo "a full disk was not told"; exit 1; fi

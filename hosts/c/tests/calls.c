@@ -141,10 +141,57 @@ static void test_concats(void) {
     for (int i = 0; i <= SHADER_CONCAT_LIMIT; i++) strcat(text, "##");
     CHECK(reading_is(read_text(text, entries, errors, lines), SHADER_REFUSAL_CONCATS, 0, 0, 0));
     CHECK(counted_is(shader_define_body(bytes_of(text + 10), strlen(text + 10), entries.table, 2000), 3, 0));
+    strcat(text, "\xC3"); /* 10 is checked before 3 */
+    CHECK(reading_is(read_text(text, entries, errors, lines), SHADER_REFUSAL_CUT, 0, 0, 0));
+    text[strlen(text) - 1] = 0;
     CHECK(held(errors, NULL, 0) && held(lines, NULL, 0) && held(entries, NULL, 0));
     entries = lend(5 * 600);
     CHECK(counted_is(shader_define_body(bytes_of(text + 12), strlen(text + 12), entries.table, entries.room), 0, 513));
     free(entries.memory);
+}
+
+/* A text and what ends it, in memory that is just as long: where it stops being UTF-8, and why it is refused. The text
+ * is of whole characters unless its length is 5 n + 3. */
+static void refused_behind(size_t text, const char *end, size_t bytes, uint32_t refusal) {
+    uint8_t *src = malloc(text + bytes);
+    if (!src) exit(2);
+    for (size_t i = 0; i < text; i++) src[i] = (uint8_t)"a\n\xC3\xA4 "[i % 5];
+    memcpy(src + text, end, bytes);
+    refused(src, text + bytes, refusal);
+    CHECK(shader_utf8_error(src, text + bytes) == text);
+    free(src);
+}
+
+/* The first bytes of a character, alone and behind texts; the same before a bad byte. */
+static void cut_behind(const char *character, size_t bytes) {
+    char bad[4];
+    memcpy(bad, character, bytes);
+    bad[bytes] = '\xFF';
+    for (size_t text = 0; text < 200; text++) {
+        if (text % 5 == 3) continue;
+        refused_behind(text, character, bytes, SHADER_REFUSAL_CUT);
+        refused_behind(text, bad, bytes + 1, SHADER_REFUSAL_UTF8);
+    }
+}
+
+static void test_cut(void) {
+    static const char *const characters[] = {"\xC2\x80",         "\xDF\xBF",         "\xE0\xA0\x80",
+                                             "\xE9\x80\xBF",     "\xED\x9F\xBF",     "\xEF\xBF\xBF",
+                                             "\xF0\x90\x80\x80", "\xF1\x80\xBF\x80", "\xF4\x8F\xBF\xBF"};
+    for (size_t i = 0; i < LENGTH(characters); i++) {
+        for (size_t bytes = 1; bytes < strlen(characters[i]); bytes++) cut_behind(characters[i], bytes);
+    }
+}
+
+/* Bytes that begin no character, at the end too, and bytes that don't go on with it. */
+static void test_bad(void) {
+    static const char *const ends[] = {"\x80",     "\xBF",     "\xC0",     "\xC1",     "\xF5",         "\xFF",
+                                       "\xE0\x80", "\xE0\x9F", "\xED\xA0", "\xF0\x80", "\xF0\x8F",     "\xF4\x90",
+                                       "\xFF\xC3", "\xC3\xC3", "\xE9 ",    "\xE9\xE9", "\xED\xA0\x80", "\xF0\x9F\xC3"};
+    for (size_t i = 0; i < LENGTH(ends); i++) {
+        refused_behind(0, ends[i], strlen(ends[i]), SHADER_REFUSAL_UTF8);
+        refused_behind(65, ends[i], strlen(ends[i]), SHADER_REFUSAL_UTF8);
+    }
 }
 
 int main(void) {
@@ -157,10 +204,14 @@ int main(void) {
     test_lookup();
     test_paste();
     test_concats();
-    refused(bytes_of("a\xED\xA0\x80"), 4, SHADER_REFUSAL_UTF8);
+    test_cut();
+    test_bad();
     uint8_t *longest = calloc(SHADER_SOURCE_LIMIT + 1, 1);
     if (!longest) return 2;
+    longest[SHADER_SOURCE_LIMIT] = 0xC3; /* 1 is checked before 10 */
     refused(longest, SHADER_SOURCE_LIMIT + 1, SHADER_REFUSAL_LENGTH);
+    longest[SHADER_SOURCE_LIMIT - 1] = 0xC3;
+    refused(longest, SHADER_SOURCE_LIMIT, SHADER_REFUSAL_CUT);
     free(longest);
     return told("calls");
 }

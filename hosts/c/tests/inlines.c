@@ -87,7 +87,8 @@ static void test_names(void) {
     CHECK(strcmp(shader_kind_name(0), "?") == 0 && strcmp(shader_kind_name(87), "?") == 0);
     CHECK(strcmp(shader_kind_name(4294967295u), "?") == 0);
     CHECK(shader_kind_is_trivia(SHADER_KIND_WS) && !shader_kind_is_trivia(SHADER_KIND_NEWLINE));
-    for (uint32_t i = 0; i < 10; i++) CHECK(strcmp(shader_refusal_text(i), shader_refusal_text(99)) != 0);
+    for (uint32_t i = 0; i <= 10; i++) CHECK(strcmp(shader_refusal_text(i), shader_refusal_text(99)) != 0);
+    CHECK(strcmp(shader_refusal_text(10), "the file ends inside a character: the upload was cut") == 0);
     CHECK(strcmp(shader_sort_text(3), shader_sort_text(99)) == 0);
     CHECK(strcmp(shader_sort_text(SHADER_SORT_END_OF_INPUT), "unexpected end of input") == 0);
 }

@@ -36,6 +36,8 @@ static void count_lending(counting call, uint32_t of_none, uint32_t short_table,
     CHECK(c.refusal == short_of_none && c.count == 0);
     c = call(bytes_of("\xFF"), 1, NULL, 0);
     CHECK(c.refusal == SHADER_REFUSAL_UTF8 && c.count == 0);
+    c = call(bytes_of("a\xC3"), 2, NULL, 0);
+    CHECK(c.refusal == SHADER_REFUSAL_CUT && c.count == 0);
     free(t.memory);
 }
 
@@ -49,6 +51,8 @@ static void unescape_lending(void) {
     CHECK(c.refusal == 0 && c.count == 0);
     c = shader_unescape(NULL, 0, NULL, 0);
     CHECK(c.refusal == 0 && c.count == 0);
+    c = shader_unescape(bytes_of("a\xC3"), 2, NULL, 0);
+    CHECK(c.refusal == SHADER_REFUSAL_CUT && c.count == 0);
 }
 
 static void too_long(void) {
@@ -69,5 +73,6 @@ int main(void) {
     too_long();
     CHECK(shader_lookup(NULL, 0, 3).refusal == SHADER_REFUSAL_LOOKUP);
     CHECK(shader_find_line(NULL, 0, 3).refusal == SHADER_REFUSAL_LOOKUP);
+    CHECK(shader_utf8_error(NULL, 0) == 0);
     return told("null");
 }

@@ -48,8 +48,15 @@ static void others() {
     check(std::strcmp(shader_refusal_text(SHADER_REFUSAL_UTF8), "not UTF-8") == 0, "shader_refusal_text");
 }
 
+static void cut() {
+    const std::uint8_t end[] = {'a', 0xE4, 0xB8};
+    check(shader_line_table(end, 3, nullptr, 0).refusal == SHADER_REFUSAL_CUT, "SHADER_REFUSAL_CUT");
+    check(shader_utf8_error(end, 3) == 1 && shader_utf8_error(src, bytes) == bytes, "shader_utf8_error");
+}
+
 int main() {
     reading();
     others();
+    cut();
     return failures != 0;
 }

@@ -32,7 +32,7 @@ impl Place {
 }
 
 /// The offset where each line of a source starts: 0, and the end of each newline. Refusals: [`Length`](Refusal::Length),
-/// [`Utf8`](Refusal::Utf8).
+/// [`Utf8`](Refusal::Utf8), [`Cut`](Refusal::Cut).
 pub fn line_table(src: &[u8]) -> Result<Vec<u32>, Refusal> {
     let lines = tables::grown(src.len(), tables::LINES, |lines| {
         // SAFETY: the slices' pointers are valid for their lengths, and the table is borrowed alone.

@@ -140,7 +140,7 @@ fn fill(src: &[u8], entries: &mut [u32], errors: &mut [u32], lines: &mut [u32]) 
 ///
 /// The tables begin with a guess, 10.4 bytes for each byte of the source and some 2,200 more, which suffices for most
 /// shaders; where one does not, the source is read again with a longer one. What is not used is given back. Refusals:
-/// [`Length`](Refusal::Length), [`Utf8`](Refusal::Utf8), [`Concats`](Refusal::Concats).
+/// [`Length`](Refusal::Length), [`Utf8`](Refusal::Utf8), [`Cut`](Refusal::Cut), [`Concats`](Refusal::Concats).
 pub fn read(src: &[u8]) -> Result<Reading, Refusal> {
     let mut tables = Tables::new();
     let counts = tables.fill(src)?;
@@ -155,7 +155,7 @@ pub fn read(src: &[u8]) -> Result<Reading, Refusal> {
 ///
 /// An entry takes [`ENTRY_NUMBERS`](crate::ENTRY_NUMBERS) numbers, an error [`ERROR_NUMBERS`](crate::ERROR_NUMBERS), a
 /// line one. A source of n bytes has at most 8n + 1 entries, 8n errors and n + 1 lines; real ones have an entry for
-/// every three bytes or so. A table that is too short is refused ([`Entries`](Refusal::Entries),
+/// every three bytes or so. Refusals: those of [`read`], and of a table that is too short ([`Entries`](Refusal::Entries),
 /// [`Errors`](Refusal::Errors), [`Lines`](Refusal::Lines)). The whole of each table is cleared, also if the call is
 /// refused.
 ///

@@ -4,25 +4,33 @@ use std::fmt;
 
 use crate::{CONCAT_LIMIT, SOURCE_LIMIT};
 
-/// Why a call was refused. A refused call answers nothing else.
+/// Why a call was refused. A refused call answers nothing else. Of several reasons the one that is checked first is
+/// given, which need not be the smallest number: [`Cut`](Refusal::Cut) is checked with [`Utf8`](Refusal::Utf8), before
+/// [`Concats`](Refusal::Concats).
 ///
-/// [`read`](crate::read) gives [`Length`](Refusal::Length), [`Utf8`](Refusal::Utf8) and [`Concats`](Refusal::Concats)
-/// alone, since it lends tables that are long enough.
+/// [`read`](crate::read) gives [`Length`](Refusal::Length), [`Utf8`](Refusal::Utf8), [`Cut`](Refusal::Cut) and
+/// [`Concats`](Refusal::Concats) alone, since it lends tables that are long enough.
 ///
 /// ```
 /// use shader_reader::{read, Refusal};
 ///
-/// let refusal = read(b"\xff").unwrap_err();
+/// let refusal = read(b"caf\xe9 au lait").unwrap_err();
 /// assert_eq!(refusal, Refusal::Utf8);
 /// assert_eq!(refusal.number(), 2);
 /// assert_eq!(refusal.to_string(), "the source is not UTF-8: convert it to UTF-8");
+///
+/// let refusal = read(b"caf\xc3").unwrap_err();
+/// assert_eq!(refusal, Refusal::Cut);
+/// assert_eq!(refusal.number(), 10);
+/// assert_eq!(refusal.to_string(), "the file ends inside a character: the upload was cut");
 /// ```
 #[derive(Debug, Clone, Copy, PartialEq, Eq, PartialOrd, Ord, Hash)]
 #[repr(u8)]
 pub enum Refusal {
     /// The source or text is longer than [`SOURCE_LIMIT`](crate::SOURCE_LIMIT) bytes.
     Length = 1,
-    /// It is not UTF-8 (RFC 3629); [`std::str::from_utf8`] tells where.
+    /// It is not UTF-8 (RFC 3629), and not for its end alone. [`message`](Refusal::message) names the first bad byte,
+    /// and [`std::str::from_utf8`] tells where it stands.
     Utf8 = 2,
     /// Some body holds more than [`CONCAT_LIMIT`](crate::CONCAT_LIMIT) `##`.
     Concats = 3,
@@ -38,6 +46,9 @@ pub enum Refusal {
     Output = 8,
     /// A pasted kind is no kind, or LINECONT.
     Kind = 9,
+    /// The source or text is UTF-8 up to its end, where a character begins that is not whole: there
+    /// [`std::str::from_utf8`] meets an error without a length.
+    Cut = 10,
 }
 
 impl Refusal {
@@ -52,6 +63,7 @@ impl Refusal {
         Refusal::Lookup,
         Refusal::Output,
         Refusal::Kind,
+        Refusal::Cut,
     ];
 
     /// The number that the library answers; 0 is no refusal.
@@ -62,6 +74,28 @@ impl Refusal {
     /// The refusal of that number.
     pub fn from_number(number: u32) -> Option<Refusal> {
         Refusal::ALL.iter().copied().find(|refusal| refusal.number() == number)
+    }
+
+    /// What is wrong with a source that was refused: the words of [`Display`](fmt::Display), and for
+    /// [`Utf8`](Refusal::Utf8) the first bad byte, for [`Cut`](Refusal::Cut) where the character begins.
+    ///
+    /// ```
+    /// let message = |src: &[u8]| shader_reader::read(src).unwrap_err().message(src);
+    ///
+    /// let bad = "the source is not UTF-8, byte 0xE9 at offset 3: convert it to UTF-8";
+    /// assert_eq!(message(b"caf\xe9 au lait"), bad);
+    /// let cut = "the file ends inside a character: the upload was cut, the character begins at offset 3";
+    /// assert_eq!(message(b"caf\xc3"), cut);
+    /// ```
+    pub fn message(self, src: &[u8]) -> String {
+        let at = std::str::from_utf8(src).map_or_else(|wrong| wrong.valid_up_to(), str::len);
+        match (self, src.get(at)) {
+            (Refusal::Utf8, Some(byte)) => {
+                format!("the source is not UTF-8, byte 0x{byte:02X} at offset {at}: convert it to UTF-8")
+            }
+            (Refusal::Cut, Some(_)) => format!("{self}, the character begins at offset {at}"),
+            _ => self.to_string(),
+        }
     }
 
     /// What the library answered.
@@ -88,6 +122,7 @@ impl fmt::Display for Refusal {
             }
             Refusal::Output => write!(f, "the output is too short: lend as many bytes as the text has"),
             Refusal::Kind => write!(f, "a kind to paste is LINECONT or none at all: lend the kinds of two leaves"),
+            Refusal::Cut => write!(f, "the file ends inside a character: the upload was cut"),
         }
     }
 }

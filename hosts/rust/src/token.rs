@@ -53,7 +53,7 @@ impl Row for Token {
 }
 
 /// The tokens of a source, without a tree; angle strings are never expected. Refusals: [`Length`](Refusal::Length),
-/// [`Utf8`](Refusal::Utf8).
+/// [`Utf8`](Refusal::Utf8), [`Cut`](Refusal::Cut).
 ///
 /// ```
 /// use shader_reader::{tokens, SyntaxKind};
@@ -74,7 +74,7 @@ pub fn tokens(src: &[u8]) -> Result<Vec<Token>, Refusal> {
 }
 
 /// A text without its continuations: each backslash with the one newline after it is dropped. Refusals:
-/// [`Length`](Refusal::Length), [`Utf8`](Refusal::Utf8).
+/// [`Length`](Refusal::Length), [`Utf8`](Refusal::Utf8), [`Cut`](Refusal::Cut).
 ///
 /// ```
 /// assert_eq!(shader_reader::unescape(b"def\\\nine").unwrap(), b"define");

@@ -80,7 +80,7 @@ fn the_definition_has_the_same_numbers() {
     assert_eq!(constant(&definition("Calls"), "longest-source"), SOURCE_LIMIT);
     assert_eq!(constant(&definition("Calls"), "most-concats"), CONCAT_LIMIT);
     assert_eq!(kinds().len(), 86);
-    assert_eq!(refusals().len(), 9);
+    assert_eq!(refusals().len(), 10);
     assert_eq!(sorts().len(), 4);
 }
 

@@ -39,8 +39,13 @@ fn exact_tables_suffice_and_the_rest_is_cleared() {
 #[test]
 fn a_refused_call_clears_its_tables() {
     let (mut entries, mut errors, mut lines) = ([7; 8], [7; 8], [7; 8]);
-    assert!(read_with(b"abc", &mut entries, &mut errors, &mut lines).is_err());
-    assert_eq!((entries, errors, lines), ([0; 8], [0; 8], [0; 8]));
+    for src in [b"abc", b"ab\xff", b"ab\xc3"] {
+        entries.fill(7);
+        errors.fill(7);
+        lines.fill(7);
+        assert!(read_with(src, &mut entries, &mut errors, &mut lines).is_err());
+        assert_eq!((entries, errors, lines), ([0; 8], [0; 8], [0; 8]));
+    }
 }
 
 #[test]

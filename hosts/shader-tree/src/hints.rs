@@ -7,13 +7,14 @@ use crate::input::Source;
 use crate::text::grouped;
 
 const BOM: &[u8] = b"\xef\xbb\xbf";
+const CONVERT_LATIN: &str = "convert it, for instance by iconv -f WINDOWS-1252 -t UTF-8";
 
 /// The message about a refused source, and the starts of the lines that it needs.
 pub fn of_refusal(refusal: Refusal, source: &Source, tables: &mut Tables) -> (Message, Vec<u32>) {
     let bytes = &source.bytes;
     match refusal {
         Refusal::Length => (too_long(source.length), vec![0]),
-        Refusal::Utf8 => not_utf8(bytes),
+        Refusal::Utf8 | Refusal::Cut => no_character(refusal, bytes),
         Refusal::Concats => (too_many_concats(bytes, tables), line_table(bytes).unwrap_or_else(|_| vec![0])),
         other => (error(other.to_string(), None), vec![0]),
     }
@@ -32,25 +33,41 @@ fn too_long(length: Option<u64>) -> Message {
     error(sentence, Some("read it in parts".into()))
 }
 
-fn not_utf8(bytes: &[u8]) -> (Message, Vec<u32>) {
+/// The message about the first place where no whole character stands: bad bytes, or a character that was cut.
+fn no_character(refusal: Refusal, bytes: &[u8]) -> (Message, Vec<u32>) {
     let Err(wrong) = std::str::from_utf8(bytes) else {
-        return (error(Refusal::Utf8.to_string(), None), vec![0]);
+        return (error(refusal.to_string(), None), vec![0]);
     };
     let at = wrong.valid_up_to();
     let end = wrong.error_len().map_or(bytes.len(), |length| at + length);
-    let sentence = format!("not UTF-8: byte 0x{:02X} at offset {at}", bytes[at]);
+    let message = if refusal == Refusal::Cut { cut(bytes, at) } else { not_utf8(bytes, at) };
+    // What stands before is UTF-8.
+    let lines = line_table(&bytes[..at]).unwrap_or_else(|_| vec![0]);
+    (Message { range: Some(at..end), ..message }, lines)
+}
+
+fn not_utf8(bytes: &[u8], at: usize) -> Message {
     let help = if utf16(bytes).is_some() {
         utf16_help(bytes)
-    } else if wrong.error_len().is_none() {
-        "the source ends within a character: it may be cut off".into()
     } else if stands_alone(bytes, at) {
         single_byte_help(bytes[at])
     } else {
         "save it as UTF-8".into()
     };
-    // What stands before the byte is UTF-8.
-    let lines = line_table(&bytes[..at]).unwrap_or_else(|_| vec![0]);
-    (Message { range: Some(at..end), ..error(sentence, Some(help)) }, lines)
+    error(format!("not UTF-8: byte 0x{:02X} at offset {at}", bytes[at]), Some(help))
+}
+
+fn cut(bytes: &[u8], at: usize) -> Message {
+    let there: Vec<_> = bytes[at..].iter().map(|byte| format!("0x{byte:02X}")).collect();
+    let sentence = format!("{}, the character begins at offset {at} with {}", Refusal::Cut, there.join(" "));
+    let help = if utf16(bytes).is_some() {
+        utf16_help(bytes)
+    } else if there.len() == 1 && bytes[..at].is_ascii() {
+        format!("send it again; a Latin-1 file with this last byte looks the same: {CONVERT_LATIN}")
+    } else {
+        "send it again".into()
+    };
+    error(sentence, Some(help))
 }
 
 #[derive(Debug, Clone, Copy, PartialEq, Eq)]
@@ -94,7 +111,7 @@ fn stands_alone(bytes: &[u8], at: usize) -> bool {
 
 fn single_byte_help(byte: u8) -> String {
     let name = if byte < 0xa0 { "Windows-1252" } else { "Latin-1 (ISO 8859-1) or Windows-1252" };
-    format!("this looks like {name}: convert it, for instance by iconv -f WINDOWS-1252 -t UTF-8")
+    format!("this looks like {name}: {CONVERT_LATIN}")
 }
 
 /// The shortest beginning that is refused ends with the ## that is one too many.
@@ -182,11 +199,30 @@ mod tests {
     fn what_it_looks_like() {
         assert!(help(b"caf\xe9 au lait").contains("Latin-1 (ISO 8859-1) or Windows-1252"));
         assert!(help(b"\x93quoted\x94").contains("looks like Windows-1252"));
-        assert!(help(b"caf\xc3").contains("ends within a character"));
         assert!(help(b"caf\xe4\xb8\xff\xff").contains("save it as UTF-8"));
         assert!(help(b"\xff\xfea\0b\0").contains("iconv -f UTF-16 "));
         assert!(help(b"\xfe\xff\0a\0b").contains("iconv -f UTF-16 "));
         assert!(help(b"a\0b\0c\0d\0\xe9\0").contains("iconv -f UTF-16LE "));
+        assert!(help(b"\0a\0b\0\xe9\0d\0e").contains("iconv -f UTF-16BE "));
+    }
+
+    #[test]
+    fn a_character_that_was_cut() {
+        let (message, lines) = refused("a\r\nä中".as_bytes().split_last().unwrap().1);
+        let words =
+            "the file ends inside a character: the upload was cut, the character begins at offset 5 with 0xE4 0xB8";
+        assert_eq!(message.sentence, words);
+        assert_eq!(message.range, Some(5..7));
+        assert_eq!(message.help.unwrap(), "send it again");
+        assert_eq!(lines, [0, 3]);
+    }
+
+    #[test]
+    fn what_else_a_cut_may_be() {
+        // One byte behind ASCII may be the last of a Latin-1 file, but not behind characters of several bytes.
+        assert!(help(b"// caf\xe9").starts_with("send it again; a Latin-1 file with this last byte looks the same: "));
+        assert_eq!(help(b"// \xc3\xa4\xe9"), "send it again");
+        assert_eq!(help(b"// caf\xe9\x80"), "send it again");
         assert!(help(b"\0a\0b\0c\0d\0\xe9").contains("iconv -f UTF-16BE "));
     }
 

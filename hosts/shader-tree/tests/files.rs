@@ -26,6 +26,7 @@ fn clean_errors_and_refusals() {
     assert_eq!(fed(&["--check"], b"void main() {}\n").code, Some(0));
     assert_eq!(fed(&["--check"], b"#a\n").code, Some(1));
     assert_eq!(fed(&["--check"], b"\xff").code, Some(1));
+    assert_eq!(fed(&["--check"], b"a\xc3").code, Some(1));
 }
 
 #[test]
@@ -49,7 +50,7 @@ fn help_and_version() {
     assert_eq!(help.code, Some(0));
     assert!(help.text().contains("columns count bytes"));
     assert!(help.text().lines().all(|line| line.len() <= 80));
-    assert_eq!(run(&["--version"]).text(), "shader-tree 0.1.0\n");
+    assert_eq!(run(&["--version"]).text(), "shader-tree 0.2.0\n");
 }
 
 #[test]

@@ -157,11 +157,15 @@ fn wide_characters_take_two_columns_with_what_combines() {
 fn refused_and_unread_files_have_sections() {
     let folder = Folder::new("page-refused");
     folder.file("latin.frag", b"// caf\xe9 <b>\n");
-    let ran = folder.run(&["--html", "latin.frag", "none.frag"]);
+    folder.file("cut.frag", b"// <b> \xe4\xb8");
+    let ran = folder.run(&["--html", "latin.frag", "cut.frag", "none.frag"]);
     assert_eq!(ran.code, Some(2));
     parts(ran.text());
     assert!(ran
         .text()
         .contains("not UTF-8: byte 0xE9 at offset 6\n    1 | // caf\\xe9 &lt;b&gt;\n      |       ^^^^\n"));
+    assert!(ran.text().contains(
+        "the upload was cut, the character begins at offset 7 with 0xE4 0xB8\n    1 | // &lt;b&gt; \\xe4\\xb8\n"
+    ));
     assert!(ran.text().contains("none.frag: can&#39;t be read: No such file or directory\n"));
 }

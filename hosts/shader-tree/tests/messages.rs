@@ -103,13 +103,30 @@ fn long_lines_are_cut_around_the_mark() {
 fn refusals_say_place_and_remedy() {
     let latin = said(b"a\n// caf\xe9 au lait\n");
     assert!(latin.starts_with("<stdin>:2:7: error: not UTF-8: byte 0xE9 at offset 8\n    2 | // caf\\xe9 au lait\n      |       ^^^^\n      = help: "), "{latin}");
-    let cut = said(b"a \xe4\xb8");
-    assert!(
-        cut.contains("1:3: error: not UTF-8: byte 0xE4 at offset 2\n") && cut.contains("it may be cut off"),
-        "{cut}"
-    );
     let wide = said(b"\xff\xfe#\0v\0\n\0");
     assert!(wide.contains("1:1: error: not UTF-8: byte 0xFF at offset 0\n") && wide.contains("UTF-16"), "{wide}");
+}
+
+#[test]
+fn a_file_that_ends_inside_a_character() {
+    assert_eq!(
+        said(b"a\n// \xe4\xb8\xad\xe4\xb8"),
+        "<stdin>:2:7: error: the file ends inside a character: the upload was cut, \
+        the character begins at offset 8 with 0xE4 0xB8\n\
+        \u{20}   2 | // 中\\xe4\\xb8\n\
+        \u{20}     |      ^^^^^^^^\n\
+        \u{20}     = help: send it again\n"
+    );
+    let one = said(b"// caf\xc3");
+    assert!(one.contains("1:7: error: the file ends inside a character: the upload was cut, "), "{one}");
+    assert!(one.contains("at offset 6 with 0xC3\n") && one.contains("a Latin-1 file with this last byte"), "{one}");
+    for (mode, out) in [("--listing", "answer,10,0,0,0\n"), ("--tokens", ""), ("--tree", "")] {
+        let ran = fed(&[mode], b"a\xf0\x9f\x98");
+        assert_eq!((ran.text(), ran.code), (out, Some(1)), "{mode}");
+        assert!(ran.err.contains("at offset 1 with 0xF0 0x9F 0x98\n"), "{}", ran.err);
+    }
+    // Behind bytes that begin no character the end says nothing.
+    assert!(said(b"\xff\xc3").contains("not UTF-8: byte 0xFF at offset 0\n"));
 }
 
 #[test]
