@@ -22,5 +22,5 @@ def refusal(rust, source):
 
 def listing(rust, source):
     """A listing of the oracle, with that refusal."""
-    word, given, rest = rust.split(",", 2)
-    return f"{word},{refusal(int(given), source)},{rest}"
+    word, given, counts = rust.split(",", 2)
+    return f"{word},{refusal(int(given), source)},{counts}"
