@@ -54,10 +54,20 @@ left (s ∷ ss) [] = cut
 left [] (b ∷ bs) = elim (follow char-forms b) [ some ss ↦ left ss bs | none ↦ broken ]
 left (s ∷ ss) (b ∷ bs) = elim (within s b) [ true ↦ left ss bs | false ↦ broken ]
 
--- Whether the bytes are UTF-8: nothing is left.
-unfoldable pub utf8 : List ℕ → Bool
-utf8 bs = elim (left [] bs) [ nothing ↦ true | cut ↦ false | broken ↦ false ]
+abbrev pub is-nothing : Left → Bool
+is-nothing nothing = true
+is-nothing cut = false
+is-nothing broken = false
 
--- Req 01: whether they end inside a character: the beginning of one is left.
+abbrev pub is-cut : Left → Bool
+is-cut nothing = false
+is-cut cut = true
+is-cut broken = false
+
+-- Whether the bytes are UTF-8.
+unfoldable pub utf8 : List ℕ → Bool
+utf8 bs = is-nothing (left [] bs)
+
+-- Whether they end inside a character (Req 01).
 unfoldable pub ends-inside : List ℕ → Bool
-ends-inside bs = elim (left [] bs) [ nothing ↦ false | cut ↦ true | broken ↦ false ]
+ends-inside bs = is-cut (left [] bs)

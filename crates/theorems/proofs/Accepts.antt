@@ -1,7 +1,7 @@
 -- With tables of the needed length and the other conditions met, no call refuses.
 use Prim.Native.Nat.{ℕ, _*_, _≤_}
-use mathlib.Core.Path.{_≡_, refl, ap, sym, subst}
-use mathlib.Core.Bool.{Bool, true, false, not}
+use mathlib.Core.Path.{_≡_, ap, sym, subst}
+use mathlib.Core.Bool.{true, false, not}
 use mathlib.Core.List.{List, _++_}
 use borrow.Author.Tests.{le-ltb}
 use lib.ListN.{length}

@@ -8,7 +8,7 @@ use mathlib.Core.Option.{Option, none, some, Option·some-injective, Option·non
 use borrow.Author.Tests.{leb-true, lt-leb}
 use native.Mathlib.Omega.{arith}
 use lib.Dec.{leb}
-use Rattle.definition.specs.Utf8.{Span, CharForm, within, char-forms, follow, Left, nothing, cut, broken, left, utf8, ends-inside}
+use Rattle.definition.specs.Utf8.{Span, CharForm, within, char-forms, follow, Left, nothing, cut, broken, left, is-nothing, is-cut, utf8, ends-inside}
 use Rattle.theorems.specs.Characters.{Fits, Has-form, Character, Characters, no-more, one-more, Ends-inside}
 
 -- Bytes that fit what is wanted are taken off,
@@ -143,8 +143,8 @@ module _ (src : List ℕ) where
 
   -- What follows from each answer.
   answers : (x : Left) → Says x src
-      → (elim x [ nothing ↦ true | cut ↦ false | broken ↦ false ] ≡ true → Characters src)
-      × (elim x [ nothing ↦ false | cut ↦ true | broken ↦ false ] ≡ true → Ends-inside src)
+      → (is-nothing x ≡ true → Characters src)
+      × (is-cut x ≡ true → Ends-inside src)
       × ((Characters src → ⊥) × (Ends-inside src → ⊥) → x ≡ broken)
   answers nothing k = (λ e. k, λ e. absurd (false≢true e), λ h. absurd (h .0 k))
   answers cut k = (λ e. absurd (false≢true e), λ e. k, λ h. absurd (h .1 k))

@@ -1,7 +1,7 @@
 -- The refusals of the seven calls.
 use Prim.Native.Nat.{ℕ, _+_, _*_, _<_, _≤_}
 use mathlib.Core.Path.{_≡_, refl, ap, _∙_}
-use mathlib.Core.Bool.{Bool, true, false, not, _&&_, _||_, false≢true, or-true, and-eq-true-iff}
+use mathlib.Core.Bool.{Bool, true, false, not, _&&_, false≢true, or-true, and-eq-true-iff}
 use mathlib.Core.Logic.{_↔_, _⊎_, inl, inr}
 use mathlib.Core.List.{List, [], _∷_, _++_}
 use borrow.Author.Tests.{ltb-true, lt-ltb, le-ltb, eqb-true, eqb-false, eq-eqb, ne-eqb, not-true}
@@ -9,7 +9,7 @@ use native.Mathlib.Omega.{arith}
 use lib.ListN.{length}
 use lib.Dec.{eqb, ltb}
 use Rattle.definition.specs.Runs.{text}
-use Rattle.definition.specs.Utf8.{Left, nothing, cut, broken, left, utf8, ends-inside}
+use Rattle.definition.specs.Utf8.{Left, nothing, cut, broken, left, is-nothing, is-cut, utf8, ends-inside}
 use Rattle.definition.specs.LineMap.{line-starts, rises, line-table}
 use Rattle.definition.specs.Unescaped.{unescaped}
 use Rattle.definition.specs.Glue.{Token, tokens, token-numbers}
@@ -201,7 +201,7 @@ whole-end : (src : List ℕ) → utf8 src ≡ true → ends-inside src ≡ false
 unfolding utf8 ends-inside
 whole-end src u = go (left [] src) u
   where
-    go : (l : Left) → elim l [ nothing ↦ true | cut ↦ false | broken ↦ false ] ≡ true → elim l [ nothing ↦ false | cut ↦ true | broken ↦ false ] ≡ false
+    go : (l : Left) → is-nothing l ≡ true → is-cut l ≡ false
     go nothing e = refl
     go cut e = absurd (false≢true e)
     go broken e = refl

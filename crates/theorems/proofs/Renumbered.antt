@@ -1,14 +1,14 @@
 -- What Req 01 changes in the answers of the five calls on a source.
 use Prim.Native.Nat.{ℕ}
-use mathlib.Core.Path.{_≡_, refl, ap, sym, _∙_}
+use mathlib.Core.Path.{_≡_, refl, ap}
 use mathlib.Core.Bool.{Bool, true, false, not, _||_, and-eq-true-iff}
-use mathlib.Core.Logic.{_⊎_, inl, inr}
+use mathlib.Core.Logic.{inl, inr}
 use mathlib.Core.List.{List, [], _∷_, _++_}
 use borrow.Author.Tests.{eqb-false, not-true}
 use lib.ListN.{length, replicate}
 use lib.Dec.{eqb, ltb}
 use Rattle.definition.specs.Text.{if_then_else_}
-use Rattle.definition.specs.Utf8.{Left, nothing, cut, broken, left, utf8, ends-inside}
+use Rattle.definition.specs.Utf8.{Left, nothing, cut, broken, left, is-nothing, is-cut, utf8, ends-inside}
 use Rattle.definition.specs.LineMap.{line-starts}
 use Rattle.definition.specs.Unescaped.{unescaped}
 use Rattle.definition.specs.Glue.{tokens, token-numbers}
@@ -38,17 +38,11 @@ module _ (src : List ℕ) (cs : List Check) where
   now = refusal (source-checks src ++ cs)
 
   -- Both numbers, by whether the source is too long and what is left of it.
-  abbrev whole : Left → Bool
-  whole l = elim l [ nothing ↦ true | cut ↦ false | broken ↦ false ]
-
-  abbrev inside : Left → Bool
-  inside l = elim l [ nothing ↦ false | cut ↦ true | broken ↦ false ]
-
   abbrev before-by : Bool → Left → ℕ
-  before-by t l = if t then Refusal.LENGTH else (if not (whole l) then Refusal.UTF8 else refusal cs)
+  before-by t l = if t then Refusal.LENGTH else (if not (is-nothing l) then Refusal.UTF8 else refusal cs)
 
   abbrev now-by : Bool → Left → ℕ
-  now-by t l = if t then Refusal.LENGTH else (if not (whole l || inside l) then Refusal.UTF8 else (if inside l then Refusal.CUT else refusal cs))
+  now-by t l = if t then Refusal.LENGTH else (if not (is-nothing l || is-cut l) then Refusal.UTF8 else (if is-cut l then Refusal.CUT else refusal cs))
 
   renumbered : lacks Refusal.CUT cs ≡ true → Renumbered before now
   unfolding refusal utf8 ends-inside
