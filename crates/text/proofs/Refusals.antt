@@ -8,7 +8,8 @@ use lib.ListN.{length}
 use borrow.Author.Tests.{lt-ltb, le-ltb, eq-eqb, ne-eqb, ltb-false, eqb-false, not-true}
 use Rattle.definition.specs.Text.{if_then_else_}
 use Rattle.definition.specs.Utf8.{left, utf8, ends-inside, nothing, cut, broken}
-use Rattle.definition.specs.Calls.{Check, refusal, longest-source, too-long, not-utf8, cut-off, utf8-checks, source-checks}
+use Rattle.definition.specs.Utf8 as definition
+use Rattle.definition.specs.Calls.{Check, Refusal, refusal, longest-source, too-long, not-utf8, cut-off, utf8-checks, source-checks}
 use Rattle.theorems.proofs.Refusals.{lacks, numbered}
 use Rattle.text.specs.Utf8.{told}
 use Rattle.text.specs.declared.utf8.Left.{Left}
@@ -42,24 +43,34 @@ refusal-passed c cs h e = go (c .fails) (and-eq-true-iff (not (eqb (c .number) 0
 abbrev pub source-then : List ℕ → List Check → List Check
 source-then src cs = source-checks src ++ cs
 
+-- By what is left of it.
+abbrev refused-by : definition.Left → ℕ
+refused-by nothing = 0
+refused-by cut = Refusal.CUT
+refused-by broken = Refusal.UTF8
+
 module _ (src : List ℕ) where
   pub long-source : longest-source < length src → too-long src .number ≡ refusal (source-checks src)
   unfolding refusal
   long-source h = rw (lt-ltb longest-source (length src) h)
 
-  -- The answer of the UTF-8 check decides whether a source is refused that is not too long.
+  -- What is left of a source that is not too long decides whether it is refused,
+  left-refusal : (l : definition.Left) → length src ≤ longest-source → left [] src ≡ l → refused-by l ≡ refusal (source-checks src)
+  unfolding refusal utf8 ends-inside
+  left-refusal nothing h d = rw (le-ltb longest-source (length src) h, d, utf8, ends-inside)
+  left-refusal cut h d = rw (le-ltb longest-source (length src) h, d, utf8, ends-inside)
+  left-refusal broken h d = rw (le-ltb longest-source (length src) h, d, utf8, ends-inside)
+
+  -- and the UTF-8 check tells it.
   module _ (l : Left) (h : length src ≤ longest-source) (e : told l ≡ left [] src) where
     pub whole-source : l ≡ Nothing → 0 ≡ refusal (source-checks src)
-    unfolding refusal utf8 ends-inside
-    whole-source q = let d : left [] src ≡ nothing = sym e ∙ ap told q in rw (le-ltb longest-source (length src) h, d, utf8, ends-inside)
+    whole-source q = left-refusal nothing h (sym e ∙ ap told q)
 
     pub cut-source : l ≡ Cut → cut-off src .number ≡ refusal (source-checks src)
-    unfolding refusal utf8 ends-inside
-    cut-source q = let d : left [] src ≡ cut = sym e ∙ ap told q in rw (le-ltb longest-source (length src) h, d, utf8, ends-inside)
+    cut-source q = left-refusal cut h (sym e ∙ ap told q)
 
     pub broken-source : l ≡ Broken → not-utf8 src .number ≡ refusal (source-checks src)
-    unfolding refusal utf8 ends-inside
-    broken-source q = let d : left [] src ≡ broken = sym e ∙ ap told q in rw (le-ltb longest-source (length src) h, d, utf8, ends-inside)
+    broken-source q = left-refusal broken h (sym e ∙ ap told q)
 
 -- What a source is refused for comes first, and if it is not refused, the other refusals of the call decide.
 module _ (src : List ℕ) (r : ℕ) (e : r ≡ refusal (source-checks src)) where
