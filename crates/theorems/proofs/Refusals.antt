@@ -4,10 +4,11 @@ use mathlib.Core.Path.{_≡_, refl, ap, _∙_}
 use mathlib.Core.Bool.{Bool, true, false, not, _&&_, false≢true, or-true, and-eq-true-iff}
 use mathlib.Core.Logic.{_↔_, _⊎_, inl, inr}
 use mathlib.Core.List.{List, [], _∷_, _++_}
-use borrow.Author.Tests.{ltb-true, lt-ltb, le-ltb, eqb-true, eqb-false, eq-eqb, ne-eqb, not-true}
+use borrow.Author.Tests.{ltb-true, ltb-false, lt-ltb, le-ltb, eqb-true, eqb-false, eq-eqb, ne-eqb, not-true}
 use native.Mathlib.Omega.{arith}
 use lib.ListN.{length}
 use lib.Dec.{eqb, ltb}
+use Rattle.definition.specs.Text.{if_then_else_}
 use Rattle.definition.specs.Runs.{text}
 use Rattle.definition.specs.Utf8.{Left, nothing, cut, broken, left, is-nothing, is-cut, utf8, ends-inside}
 use Rattle.definition.specs.LineMap.{line-starts, rises, line-table}
@@ -18,7 +19,7 @@ use Rattle.definition.specs.Error.{Err, error-numbers}
 use Rattle.definition.specs.Syntax.{parse-define-body}
 use Rattle.definition.specs.Calls.{Check, Refusal, longest-source, most-concats, refusal, too-many, too-long, not-utf8, cut-off, source-checks, too-many-concats, short-table, no-line-table, no-kind, counted, filled, full-reading, reading-checks, outcome, reading, reading-body, listing-tokens, building-lines, unescaping, looking-up, pasting}
 use Rattle.theorems.specs.Characters.{Characters, Ends-inside}
-use Rattle.theorems.specs.Refusals.{Pass, Given, Refuses, Zeros, Some-over, Rises, Line-table}
+use Rattle.theorems.specs.Refusals.{Pass, Given, Refuses, Zeros, Utf8-refusals, Some-over, Rises, Line-table}
 use Rattle.theorems.proofs.Characters.{utf8-when, ends-inside-when}
 
 -- A number is given exactly if its condition holds and no earlier one does.
@@ -66,6 +67,17 @@ pass-refusal : (cs : List Check) → Pass cs → refusal cs ≡ 0
 unfolding refusal Pass
 pass-refusal [] p = refl
 pass-refusal (c ∷ cs) p = rw (p .0, refusal) (pass-refusal cs (p .1))
+
+-- A number that no check has is not given.
+pub not-given : (n : ℕ) (cs : List Check) → eqb 0 n ≡ false → lacks n cs ≡ true → refusal cs ≡ n → ⊥
+unfolding refusal lacks
+not-given n [] z h e = eqb-false 0 n z e
+not-given n (c ∷ cs) z h e =
+    let k = and-eq-true-iff (not (eqb (c .number) n)) (lacks n cs) .0 h in go (c .fails) (eqb-false (c .number) n (not-true _ (k .0))) (not-given n cs z (k .1)) e
+  where
+    go : (t : Bool) → (c .number ≡ n → ⊥) → (refusal cs ≡ n → ⊥) → (if t then c .number else refusal cs) ≡ n → ⊥
+    go true k ih q = k q
+    go false k ih q = ih q
 
 refuses : (cs : List Check) → numbered cs ≡ true → Refuses (refusal cs) cs
 refuses cs h = record { given = λ n p. (refusal-given cs n p, given-refusal cs n); accepted = (refusal-pass cs h, pass-refusal cs) }
@@ -216,6 +228,57 @@ pub pass-then : (xs ys : List Check) → Pass xs → Pass ys → Pass (xs ++ ys)
 unfolding Pass
 pass-then [] ys p q = q
 pass-then (x ∷ xs) ys p q = (p .0, pass-then xs ys (p .1) q)
+
+-- Which sources are refused by 10 and by 2, whatever else a call checks after them.
+module _ (src : List ℕ) (cs : List Check) (ten : lacks Refusal.CUT cs ≡ true) (two : lacks Refusal.UTF8 cs ≡ true) where
+  abbrev by : Bool → Bool → Bool → ℕ
+  by t n c = if t then Refusal.LENGTH else (if n then Refusal.UTF8 else (if c then Refusal.CUT else refusal cs))
+
+  by-10 : (t n c : Bool) → by t n c ≡ Refusal.CUT → (t ≡ false) × (c ≡ true)
+  by-10 true n c e = absurd (eqb-false Refusal.LENGTH Refusal.CUT refl e)
+  by-10 false true c e = absurd (eqb-false Refusal.UTF8 Refusal.CUT refl e)
+  by-10 false false true e = (refl, refl)
+  by-10 false false false e = absurd (not-given Refusal.CUT cs refl ten e)
+
+  by-2 : (t n c : Bool) → by t n c ≡ Refusal.UTF8 → (t ≡ false) × (n ≡ true)
+  by-2 true n c e = absurd (eqb-false Refusal.LENGTH Refusal.UTF8 refl e)
+  by-2 false true c e = (refl, refl)
+  by-2 false false true e = absurd (eqb-false Refusal.CUT Refusal.UTF8 refl e)
+  by-2 false false false e = absurd (not-given Refusal.UTF8 cs refl two e)
+
+  utf8-refusals : Utf8-refusals src (refusal (source-checks src ++ cs))
+  unfolding refusal
+  utf8-refusals = record {
+    cut-off = (
+      λ e. let (t, c) = by-10 (too-long src .fails) (not-utf8 src .fails) (ends-inside src) e in (ltb-false _ _ t, cut-off-when src .0 c),
+      λ h. rw (le-ltb longest-source (length src) (h .0), cut-off-when src .1 (h .1), or-true (utf8 src)),
+    );
+    not-utf8 = (
+      λ e. let (t, n) = by-2 (too-long src .fails) (not-utf8 src .fails) (ends-inside src) e in (ltb-false _ _ t, not-utf8-when src .0 n),
+      λ h. rw (le-ltb longest-source (length src) (h .0), not-utf8-when src .1 (h .1)),
+    );
+  }
+
+pub reading-utf8 : (src : List ℕ) (a b c : ℕ) → Utf8-refusals src (reading src a b c .refused)
+unfolding reading outcome lacks
+reading-utf8 src a b c = utf8-refusals src _ refl refl
+
+module _ (src : List ℕ) (room : ℕ) where
+  pub body-utf8 : Utf8-refusals src (reading-body src room .refused)
+  unfolding reading-body lacks
+  body-utf8 = utf8-refusals src _ refl refl
+
+  pub tokens-utf8 : Utf8-refusals src (listing-tokens src room .refused)
+  unfolding listing-tokens lacks
+  tokens-utf8 = utf8-refusals src _ refl refl
+
+  pub lines-utf8 : Utf8-refusals src (building-lines src room .refused)
+  unfolding building-lines lacks
+  lines-utf8 = utf8-refusals src _ refl refl
+
+  pub unescape-utf8 : Utf8-refusals src (unescaping src room .refused)
+  unfolding unescaping lacks
+  unescape-utf8 = utf8-refusals src _ refl refl
 
 some-over : (ns : List ℕ) → too-many ns ≡ true → Some-over ns
 unfolding too-many Some-over

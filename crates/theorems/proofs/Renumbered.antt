@@ -1,10 +1,10 @@
 -- What Req 01 changes in the answers of the five calls on a source.
 use Prim.Native.Nat.{ℕ}
 use mathlib.Core.Path.{_≡_, refl, ap}
-use mathlib.Core.Bool.{Bool, true, false, not, _||_, and-eq-true-iff}
+use mathlib.Core.Bool.{Bool, true, false, not, _||_}
 use mathlib.Core.Logic.{inl, inr}
 use mathlib.Core.List.{List, [], _∷_, _++_}
-use borrow.Author.Tests.{eqb-false, not-true}
+use borrow.Author.Tests.{eqb-false}
 use lib.ListN.{length, replicate}
 use lib.Dec.{eqb, ltb}
 use Rattle.definition.specs.Text.{if_then_else_}
@@ -16,18 +16,7 @@ use Rattle.definition.specs.Tree.{Entry, entries, entry-numbers, body-concats}
 use Rattle.definition.specs.Syntax.{parse-define-body}
 use Rattle.definition.specs.Calls.{Check, Refusal, longest-source, refusal, source-checks, too-many-concats, short-table, counted, padded, filled, Full, full-reading, entries-of, errors-of, outcome, reading, Filled, fills, reading-body, listing-tokens, building-lines, unescaping}
 use Rattle.theorems.specs.Renumbered.{checks-before, Renumbered, Stays, Reading-stays}
-use Rattle.theorems.proofs.Refusals.{lacks}
-
--- A number that no check has is not given.
-not-given : (n : ℕ) (cs : List Check) → eqb 0 n ≡ false → lacks n cs ≡ true → refusal cs ≡ n → ⊥
-unfolding refusal lacks
-not-given n [] z h e = eqb-false 0 n z e
-not-given n (c ∷ cs) z h e =
-    let k = and-eq-true-iff (not (eqb (c .number) n)) (lacks n cs) .0 h in go (c .fails) (eqb-false (c .number) n (not-true _ (k .0))) (not-given n cs z (k .1)) e
-  where
-    go : (t : Bool) → (c .number ≡ n → ⊥) → (refusal cs ≡ n → ⊥) → (if t then c .number else refusal cs) ≡ n → ⊥
-    go true k ih q = k q
-    go false k ih q = ih q
+use Rattle.theorems.proofs.Refusals.{lacks, not-given}
 
 -- The checks of a source, before and now, with other checks after them.
 module _ (src : List ℕ) (cs : List Check) where
