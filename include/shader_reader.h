@@ -51,7 +51,7 @@ extern "C" {
 enum shader_refusal {
     SHADER_REFUSAL_NONE = 0,    /* accepted */
     SHADER_REFUSAL_LENGTH = 1,  /* the source or text is longer than SHADER_SOURCE_LIMIT; it was not looked at */
-    SHADER_REFUSAL_UTF8 = 2,    /* it is not UTF-8 (RFC 3629), and not for its end alone */
+    SHADER_REFUSAL_UTF8 = 2,    /* it is not UTF-8 (RFC 3629), nor does it end inside a character */
     SHADER_REFUSAL_CONCATS = 3, /* a body holds more than SHADER_CONCAT_LIMIT ## */
     SHADER_REFUSAL_ENTRIES = 4, /* the entry table or the token table is too short: lend a longer one */
     SHADER_REFUSAL_ERRORS = 5,  /* the error table is too short: lend a longer one */

@@ -36,7 +36,7 @@ Refusal = record { LENGTH = 1; UTF8 = 2; CONCATS = 3; ENTRIES = 4; ERRORS = 5; L
 abbrev pub too-long : List ℕ → Check  -- 1: the source or text is longer.
 too-long src = record { number = Refusal.LENGTH; fails = ltb longest-source (length src) }
 
-abbrev pub not-utf8 : List ℕ → Check  -- 2: it is not UTF-8, and not for its end alone.
+abbrev pub not-utf8 : List ℕ → Check  -- 2: it is not UTF-8, nor does it end inside a character.
 not-utf8 src = record { number = Refusal.UTF8; fails = not (utf8 src || ends-inside src) }
 
 abbrev pub cut-off : List ℕ → Check  -- 10, Req 01: it ends inside a character.

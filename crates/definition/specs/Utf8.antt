@@ -54,6 +54,7 @@ left (s ∷ ss) [] = cut
 left [] (b ∷ bs) = elim (follow char-forms b) [ some ss ↦ left ss bs | none ↦ broken ]
 left (s ∷ ss) (b ∷ bs) = elim (within s b) [ true ↦ left ss bs | false ↦ broken ]
 
+-- Which of them it is.
 abbrev pub is-nothing : Left → Bool
 is-nothing nothing = true
 is-nothing cut = false

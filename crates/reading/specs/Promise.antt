@@ -36,7 +36,7 @@ pub record Whole (f : Full) (entry-room error-room line-room : ℕ) (r : Reading
 
 -- A reading of src with three tables of these lengths answered r and left these tables.
 pub record Reads-source (src : List ℕ) (entry-room error-room line-room : ℕ) (r : Reading) (entries errors lines : List ℕ) : Type 0 where
-  -- Demand 1: a refusal of 01 is given exactly if its condition holds and no earlier one does;
+  -- Demand 1: a refusal (01, Req 01) is given exactly if its condition holds and no earlier one does;
   pub refusal : Refuses (r .refusal) (reading-checks src (full-reading src) entry-room error-room line-room)
   -- it has counts of 0 and puts zeros in every table;
   pub zero-entries : Zeros (r .refusal) (r .entries) entry-room entries
@@ -62,7 +62,7 @@ pub record WholeBody (tree : Forest) (room : ℕ) (r : Counted) (table : List �
 
 -- A reading of src as a define body with a table of this length answered r and left this table.
 pub record Reads-body (src : List ℕ) (room : ℕ) (r : Counted) (table : List ℕ) : Type 0 where
-  -- Demand 1: a refusal of 01 is given exactly if its condition holds and no earlier one does;
+  -- Demand 1: a refusal (01, Req 01) is given exactly if its condition holds and no earlier one does;
   pub refusal : Refuses (r .refusal) (body-checks src room)
   -- it has a count of 0 and puts zeros in the table;
   pub zero-entries : Zeros (r .refusal) (r .count) room table

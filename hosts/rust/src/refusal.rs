@@ -29,8 +29,8 @@ use crate::{CONCAT_LIMIT, SOURCE_LIMIT};
 pub enum Refusal {
     /// The source or text is longer than [`SOURCE_LIMIT`](crate::SOURCE_LIMIT) bytes.
     Length = 1,
-    /// It is not UTF-8 (RFC 3629), and not for its end alone. [`message`](Refusal::message) names the first bad byte,
-    /// and [`std::str::from_utf8`] tells where it stands.
+    /// It is not UTF-8 (RFC 3629), nor does it end inside a character, which is [`Cut`](Refusal::Cut).
+    /// [`message`](Refusal::message) names the first bad byte, and [`std::str::from_utf8`] tells where it stands.
     Utf8 = 2,
     /// Some body holds more than [`CONCAT_LIMIT`](crate::CONCAT_LIMIT) `##`.
     Concats = 3,
