@@ -123,7 +123,16 @@ strings =
 abbrev blanks : List Asked
 blanks =
     lists " \t\u{c} a" (answer 0 2 ++ token K.WS 0 4 ++ token K.IDENT_KW 4 5) ∷
-    lists "\u{b}" (answer 0 1 ++ token K.ERROR 0 1) ∷
+    lists "\u{b}" (answer 0 1 ++ token K.WS 0 1) ∷
+    lists "\t\u{b}\u{c} \u{b}\u{b}a\u{b}" (answer 0 3 ++ token K.WS 0 6 ++ token K.IDENT_KW 6 7 ++ token K.WS 7 8) ∷
+    lists "\\\u{b}\n1\u{b}\u{b}.\u{b}5" (answer 0 8 ++ token K.BACKSLASH 0 1 ++ token K.WS 1 2 ++ token K.NEWLINE 2 3
+    ++ token K.DIGITS 3 4 ++ token K.WS 4 6 ++ token K.PERIOD 6 7 ++ token K.WS 7 8 ++ token K.DIGITS 8 9) ∷
+    lists "/*\u{b}*/\u{b}\"\u{b}\"" (answer 0 3 ++ token K.COMMENT 0 5 ++ token K.WS 5 6 ++ token K.QUOTE_STRING 6 9) ∷
+    lists "//\u{b}\\\u{b}\n\u{b}" (answer 0 3 ++ token K.COMMENT 0 5 ++ token K.NEWLINE 5 6 ++ token K.WS 6 7) ∷
+    bodies "\u{b}##\u{b}a\u{b}\n" (answer 0 6 ++ node K.PP_DEFINE_BODY 0 0 5 ++ node K.PP_CONCAT 1 0 5 ++ leaf K.WS 2 0 1
+    ++ leaf K.PP_CONCAT_OP 2 1 3 ++ leaf K.WS 2 3 4 ++ leaf K.IDENT_KW 2 4 5) ∷
+    breaks "\u{b}\n\u{b}" (answer 0 2 ++ line 0 ++ line 2) ∷
+    unescapes "\u{b}\\\n\u{b}" (answer 0 2 ++ ascii "\u{b}\u{b}") ∷
     lists "\\\n\\\r\n\\ " (answer 0 4 ++ token K.LINECONT 0 2 ++ token K.LINECONT 2 5 ++ token K.BACKSLASH 5 6 ++ token K.WS 6 7) ∷
     lists "\\" (answer 0 1 ++ token K.BACKSLASH 0 1) ∷
     lists "\n\r\n\r\r\n" (answer 0 3 ++ token K.NEWLINE 0 2 ++ token K.NEWLINE 2 4 ++ token K.NEWLINE 4 6) ∷ []

@@ -27,9 +27,9 @@ kinds-in-order :
 unfolding from
 kinds-in-order = refl
 
--- The classes of first bytes: 10 and 13 are newlines, 9, 12 and 32 blanks.
+-- The classes of first bytes: 10 and 13 are newlines, 9, 11 (Req 02), 12 and 32 blanks.
 classes : map class (from 0 256) ≡
-    replicate 9 PUNCT ++ replicate 1 WS ++ replicate 1 NEWLINE ++ replicate 1 PUNCT ++ replicate 1 WS ++ replicate 1 NEWLINE ++ replicate 18 PUNCT
+    replicate 9 PUNCT ++ replicate 1 WS ++ replicate 1 NEWLINE ++ replicate 2 WS ++ replicate 1 NEWLINE ++ replicate 18 PUNCT
     ++ replicate 1 WS ++ replicate 15 PUNCT ++ replicate 10 DIGIT ++ replicate 7 PUNCT ++ replicate 26 LETTER ++ replicate 6 PUNCT
     ++ replicate 26 LETTER ++ replicate 133 PUNCT
 unfolding class from

@@ -317,6 +317,40 @@ places =
     ++ leaf K.IDENT_KW 2 7 11 ++ leaf K.WS 2 11 12 ++ node K.ERROR 2 12 13 ++ leaf K.IDENT_KW 3 12 13 ++ error 2 12 13 1 8 0 0 0 7 11
     ++ line 0 ++ line 4) ∷ []
 
+-- Vertical tabs (Req 02): before a HASH, between it and the word and behind that, beside other blanks and before a bracket; in text, in
+-- comments and in strings.
+abbrev vertical-tabs : List Worked
+vertical-tabs =
+    reads "\u{b}#\u{b}if\u{b}a\u{b}\n" (answer 0 11 0 2 ++ node K.ROOT 0 0 9 ++ node K.PP_IF 1 0 9 ++ leaf K.WS 2 0 1
+    ++ leaf K.HASH 2 1 2 ++ leaf K.WS 2 2 3 ++ leaf K.IDENT_KW 2 3 5 ++ leaf K.WS 2 5 6 ++ node K.PP_IF_EXPR 2 6 7
+    ++ leaf K.IDENT_KW 3 6 7 ++ leaf K.WS 2 7 8 ++ leaf K.NEWLINE 2 8 9 ++ line 0 ++ line 9) ∷
+    reads " \u{b}\t# \u{b}\u{c}else\t\u{b}" (answer 0 7 0 1 ++ node K.ROOT 0 0 13 ++ node K.PP_ELSE 1 0 13 ++ leaf K.WS 2 0 3
+    ++ leaf K.HASH 2 3 4 ++ leaf K.WS 2 4 7 ++ leaf K.IDENT_KW 2 7 11 ++ leaf K.WS 2 11 13 ++ line 0) ∷
+    reads "#define\u{b}f\u{b}(a)\n" (answer 0 12 0 2 ++ node K.ROOT 0 0 14 ++ node K.PP_DEFINE 1 0 14 ++ leaf K.HASH 2 0 1
+    ++ leaf K.IDENT_KW 2 1 7 ++ leaf K.WS 2 7 8 ++ leaf K.IDENT_KW 2 8 9 ++ leaf K.WS 2 9 10 ++ node K.PP_DEFINE_BODY 2 10 13
+    ++ leaf K.LPAREN 3 10 11 ++ leaf K.IDENT_KW 3 11 12 ++ leaf K.RPAREN 3 12 13 ++ leaf K.NEWLINE 2 13 14 ++ line 0 ++ line 14) ∷
+    reads "#define f(\u{b}a\u{b},\u{b})\u{b}a##\u{b}b\u{b}\n" (answer 0 24 0 2 ++ node K.ROOT 0 0 24 ++ node K.PP_DEFINE 1 0 24
+    ++ leaf K.HASH 2 0 1 ++ leaf K.IDENT_KW 2 1 7 ++ leaf K.WS 2 7 8 ++ leaf K.IDENT_KW 2 8 9 ++ node K.PP_DEFINE_ARGS 2 9 16
+    ++ leaf K.LPAREN 3 9 10 ++ leaf K.WS 3 10 11 ++ node K.PP_DEFINE_ARG 3 11 12 ++ leaf K.IDENT_KW 4 11 12 ++ leaf K.WS 3 12 13
+    ++ leaf K.COMMA 3 13 14 ++ leaf K.WS 3 14 15 ++ leaf K.RPAREN 3 15 16 ++ leaf K.WS 2 16 17 ++ node K.PP_DEFINE_BODY 2 17 22
+    ++ node K.PP_CONCAT 3 17 22 ++ leaf K.IDENT_KW 4 17 18 ++ leaf K.PP_CONCAT_OP 4 18 20 ++ leaf K.WS 4 20 21
+    ++ leaf K.IDENT_KW 4 21 22 ++ leaf K.WS 2 22 23 ++ leaf K.NEWLINE 2 23 24 ++ line 0 ++ line 24) ∷
+    reads "#include\u{b}<\u{b}>\u{b}\n" (answer 0 9 0 2 ++ node K.ROOT 0 0 14 ++ node K.PP_INCLUDE 1 0 14 ++ leaf K.HASH 2 0 1
+    ++ leaf K.IDENT_KW 2 1 8 ++ leaf K.WS 2 8 9 ++ node K.PP_INCLUDE_PATH 2 9 12 ++ leaf K.ANGLE_STRING 3 9 12 ++ leaf K.WS 2 12 13
+    ++ leaf K.NEWLINE 2 13 14 ++ line 0 ++ line 14) ∷
+    reads "#\u{b}\n\u{b}#" (answer 0 8 0 2 ++ node K.ROOT 0 0 5 ++ node K.PP_EMPTY 1 0 3 ++ leaf K.HASH 2 0 1 ++ leaf K.WS 2 1 2
+    ++ leaf K.NEWLINE 2 2 3 ++ node K.ERROR 1 3 5 ++ leaf K.WS 2 3 4 ++ leaf K.HASH 2 4 5 ++ line 0 ++ line 3) ∷
+    reads "#\u{b}(\u{b})\u{b}#undef\u{b}\n\u{b}a" (answer 0 17 2 2 ++ node K.ROOT 0 0 16 ++ leaf K.HASH 1 0 1 ++ leaf K.WS 1 1 2
+    ++ leaf K.LPAREN 1 2 3 ++ leaf K.WS 1 3 4 ++ leaf K.RPAREN 1 4 5 ++ node K.PP_UNDEF 1 5 16 ++ leaf K.WS 2 5 6 ++ leaf K.HASH 2 6 7
+    ++ leaf K.IDENT_KW 2 7 12 ++ leaf K.WS 2 12 13 ++ node K.PP_IDENT 2 13 14 ++ node K.ERROR 3 13 14 ++ leaf K.NEWLINE 4 13 14
+    ++ leaf K.WS 2 14 15 ++ node K.ERROR 2 15 16 ++ leaf K.IDENT_KW 3 15 16 ++ error 4 13 14 0 13 K.NEWLINE K.IDENT_KW 0 0 0
+    ++ error 2 15 16 1 1 0 0 0 7 12 ++ line 0 ++ line 14) ∷
+    reads "\u{b}a\u{b}=\u{b}\"\u{b}\";\n/*\u{b}*/#\\\n\u{b}//\u{b}\n" (answer 0 16 0 4 ++ node K.ROOT 0 0 23 ++ leaf K.WS 1 0 1
+    ++ leaf K.IDENT_KW 1 1 2 ++ leaf K.WS 1 2 3 ++ leaf K.EQUAL 1 3 4 ++ leaf K.WS 1 4 5 ++ leaf K.QUOTE_STRING 1 5 8
+    ++ leaf K.SEMICOLON 1 8 9 ++ leaf K.NEWLINE 1 9 10 ++ node K.PP_EMPTY 1 10 23 ++ leaf K.COMMENT 2 10 15 ++ leaf K.HASH 2 15 16
+    ++ leaf K.WS 2 16 18 ++ leaf K.WS 2 18 19 ++ leaf K.COMMENT 2 19 22 ++ leaf K.NEWLINE 2 22 23 ++ line 0 ++ line 10 ++ line 18
+    ++ line 23) ∷ []
+
 -- A source that is not a text of ASCII.
 abbrev reads-of : List ℕ → List ℕ → Worked
 reads-of s n = record { source = s; numbers = n }
@@ -347,7 +381,7 @@ broken =
     reads-of ((0xC3 ∷ []) ++ ascii "\n#a\n") (answer 2 0 0 0) ∷ []
 
 unfoldable pub recorded : List Worked
-recorded = words ++ ends ++ args ++ trivia ++ unknowns ++ concats ++ places ++ cut-off ++ broken
+recorded = words ++ ends ++ args ++ trivia ++ unknowns ++ concats ++ places ++ vertical-tabs ++ cut-off ++ broken
 
 pub recorded-listed : all-listed recorded ≡ true
 unfolding all-listed recorded listed

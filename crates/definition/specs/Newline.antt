@@ -8,6 +8,9 @@ LF = byte "\n"
 abbrev pub CR : ℕ
 CR = byte "\r"
 
+abbrev pub VT : ℕ  -- The vertical tab.
+VT = 11
+
 -- A character stands for its first byte; this number stands for the two newline characters as one, which is no byte.
 abbrev pub CRLF : ℕ
 CRLF = 256
@@ -35,9 +38,9 @@ newlines = LF ∷ CR ∷ CRLF ∷ []
 abbrev pub newline : ℕ → Bool
 newline c = one-of newlines c
 
--- Tab, form feed and space; a vertical tab (11) is no blank.
+-- Tab, vertical tab (Req 02), form feed and space (GLSL 3.1).
 abbrev pub blanks : List ℕ
-blanks = byte "\t" ∷ 12 ∷ byte " " ∷ []
+blanks = byte "\t" ∷ VT ∷ 12 ∷ byte " " ∷ []
 
 abbrev pub blank : ℕ → Bool
 blank c = one-of blanks c

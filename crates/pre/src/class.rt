@@ -30,7 +30,7 @@ const CLASSES: [u8; 256] = [
     Kind::ERROR,
     Class::WS,
     Class::NEWLINE,
-    Kind::ERROR,
+    Class::WS,
     Class::WS,
     Class::NEWLINE,
     Kind::ERROR,
