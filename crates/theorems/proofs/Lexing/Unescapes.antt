@@ -24,7 +24,7 @@ backslash-kept = class-kept backslash refl refl
 
 -- A backslash with a newline after it is dropped with it, and any other character is kept.
 module _ (c d : Run ℕ ℕ) (cs : List (Run ℕ ℕ)) where
-  by-test : (t : Bool) → backslash (c .kind) && newline (d .kind) ≡ t
+  pub by-test : (t : Bool) → backslash (c .kind) && newline (d .kind) ≡ t
       → unescaped-chars (c ∷ d ∷ cs) ≡ elim t as (λ (t : Bool). List ℕ) [ true ↦ unescaped-chars cs | false ↦ text c ++ unescaped-chars (d ∷ cs) ]
   unfolding unescaped-chars
   by-test t e =

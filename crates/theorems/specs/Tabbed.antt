@@ -1,0 +1,22 @@
+-- Req 02: a source, and what is read of it, with a tab in place of each vertical tab.
+use Prim.Native.Nat.{ℕ}
+use mathlib.Core.List.{List, map}
+use lib.Dec.{eqb}
+use Rattle.definition.specs.Text.{if_then_else_, byte}
+use Rattle.definition.specs.Newline.{VT}
+use Rattle.definition.specs.Glue.{Token}
+use Rattle.definition.specs.Tree.{Leaf}
+
+-- A byte, and a row of bytes.
+abbrev pub as-tab : ℕ → ℕ
+as-tab b = if eqb b VT then byte "\t" else b
+
+abbrev pub tabbed : List ℕ → List ℕ
+tabbed bs = map as-tab bs
+
+-- A token, and a leaf: its bytes so, the rest as it is.
+abbrev pub tabbed-token : Token → Token
+tabbed-token t = record { kind = t .kind; head = as-tab (t .head); tail = tabbed (t .tail) }
+
+abbrev pub tabbed-leaf : Leaf → Leaf
+tabbed-leaf t = record { kind = t .kind; start = t .start; bytes = tabbed (t .bytes) }
