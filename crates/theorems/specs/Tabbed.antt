@@ -5,7 +5,9 @@ use lib.Dec.{eqb}
 use Rattle.definition.specs.Text.{if_then_else_, byte}
 use Rattle.definition.specs.Newline.{VT}
 use Rattle.definition.specs.Glue.{Token}
-use Rattle.definition.specs.Tree.{Leaf}
+use Rattle.definition.specs.Tree.{Leaf, Forest, nil, leaf, node}
+use Rattle.definition.specs.Parser.{Got}
+use Rattle.definition.specs.Calls.{Filled}
 
 -- A byte, and a row of bytes.
 abbrev pub as-tab : ℕ → ℕ
@@ -20,3 +22,16 @@ tabbed-token t = record { kind = t .kind; head = as-tab (t .head); tail = tabbed
 
 abbrev pub tabbed-leaf : Leaf → Leaf
 tabbed-leaf t = record { kind = t .kind; start = t .start; bytes = tabbed (t .bytes) }
+
+-- A row of trees, and what a reader gets.
+unfoldable pub tabbed-forest : Forest → Forest
+tabbed-forest nil = nil
+tabbed-forest (leaf t f) = leaf (tabbed-leaf t) (tabbed-forest f)
+tabbed-forest (node k c f) = node k (tabbed-forest c) (tabbed-forest f)
+
+abbrev pub tabbed-got : Got → Got
+tabbed-got g = record { tree = tabbed-forest (g .tree); errs = g .errs; rest = map tabbed-leaf (g .rest) }
+
+-- What a call leaves in a table of bytes.
+abbrev pub tabbed-filled : Filled → Filled
+tabbed-filled f = record { refused = f .refused; count = f .count; table = tabbed (f .table) }

@@ -1,13 +1,13 @@
 -- The lexer does not tell a vertical tab from a tab (Req 02): a source's tokens, lines and unescaped text are those of the source with tabs.
 use Prim.Native.Nat.{ℕ, suc, _+_}
 use mathlib.Core.Path.{_≡_, refl, ap, ap₂, sym, _∙_}
-use mathlib.Core.Bool.{Bool, true, false, _&&_, not, and-false}
+use mathlib.Core.Bool.{Bool, true, false, _&&_, _||_, not, false≢true, and-false, and-eq-true-iff}
 use mathlib.Core.List.{List, [], _∷_, _++_, map, map-append}
 use mathlib.Core.Option.{Option, none, some}
 use lib.Dec.{eqb}
 use lib.ListN.{length, length-map}
-use borrow.Author.Tests.{eqb-true}
-use Rattle.definition.specs.Text.{if_then_else_, among, byte, ascii, same}
+use borrow.Author.Tests.{ne-eqb, eqb-true, eqb-false}
+use Rattle.definition.specs.Text.{if_then_else_, among, one-of, byte, ascii, same}
 use Rattle.definition.specs.SyntaxKind.{Kind}
 use Rattle.definition.specs.Runs.{Run, text, joined, grouped}
 use Rattle.definition.specs.Newline.{LF, CR, CRLF, VT, char-more, chars, newline}
@@ -108,28 +108,38 @@ unescaped-as (c ∷ d ∷ cs) = go (backslash (c .kind) && newline (d .kind)) re
         ∙ ap (λ l. text (tabbed-char c) ++ l) jh
         ∙ sym (map-append as-tab (text c) (unescaped-chars (d ∷ cs))) ∙ ap tabbed (sym (by-test c d cs false e))
 
--- Neither is a byte of the word.
-unfoldable Apart : List ℕ → Type 0
-Apart [] = Unit {0}
-Apart (y ∷ ys) = (eqb (byte "\t") y ≡ eqb VT y) × Apart ys
+-- Whether neither is a byte of the word.
+unfoldable pub apart : List ℕ → Bool
+apart [] = true
+apart (y ∷ ys) = not (one-of (VT ∷ byte "\t" ∷ []) y) && apart ys
 
-same-tabbed : (xs ys : List ℕ) → Apart ys → same (tabbed xs) ys ≡ same xs ys
-unfolding same Apart
-same-tabbed [] [] h = refl
-same-tabbed [] (y ∷ ys) h = refl
-same-tabbed (x ∷ xs) [] h = refl
-same-tabbed (x ∷ xs) (y ∷ ys) h = ap₂ _&&_ (by-tab (λ x. eqb x y) (h .0) x) (same-tabbed xs ys (h .1))
+alike : (y : ℕ) → not (one-of (VT ∷ byte "\t" ∷ []) y) ≡ true → (eqb (byte "\t") y ≡ eqb VT y) × (eqb y (byte "\t") ≡ eqb y VT)
+alike y h = go (eqb y VT) (eqb y (byte "\t")) refl refl h
+  where
+    go : (a b : Bool) → eqb y VT ≡ a → eqb y (byte "\t") ≡ b → not (a || (b || false)) ≡ true → (eqb (byte "\t") y ≡ eqb VT y) × (eqb y (byte "\t") ≡ eqb y VT)
+    go true b e f z = absurd (false≢true z)
+    go false true e f z = absurd (false≢true z)
+    go false false e f z =
+        (ne-eqb (byte "\t") y (λ q. eqb-false y (byte "\t") f (sym q)) ∙ sym (ne-eqb VT y (λ q. eqb-false y VT e (sym q))), f ∙ sym e)
 
-apart-defined : Apart defined
-unfolding Apart ascii
-apart-defined = (refl, (refl, (refl, (refl, (refl, (refl, (refl, tt)))))))
+-- The word on the right, and on the left.
+pub same-tabbed : (xs ys : List ℕ) → apart ys ≡ true → (same (tabbed xs) ys ≡ same xs ys) × (same ys (tabbed xs) ≡ same ys xs)
+unfolding same apart
+same-tabbed [] [] h = (refl, refl)
+same-tabbed [] (y ∷ ys) h = (refl, refl)
+same-tabbed (x ∷ xs) [] h = (refl, refl)
+same-tabbed (x ∷ xs) (y ∷ ys) h =
+    let p = and-eq-true-iff (not (one-of (VT ∷ byte "\t" ∷ []) y)) (apart ys) .0 h in
+    let a = alike y (p .0) in
+    let ih = same-tabbed xs ys (p .1) in
+    (ap₂ _&&_ (by-tab (λ x. eqb x y) (a .0) x) (ih .0), ap₂ _&&_ (by-tab (λ x. eqb y x) (a .1) x) (ih .1))
 
 kind-tabbed : (r : Run (Run ℕ ℕ) Pre) → pre-kind (run-as tabbed-char (λ q. q) r) ≡ pre-kind r
-unfolding pre-kind
+unfolding pre-kind apart ascii
 kind-tabbed r =
     let k : ℕ = kind-of (r .kind .at) in
     ap (λ b. if eqb k Kind.IDENT_KW && b then Kind.DEFINED else k)
-    (ap (λ l. same l defined) (unescaped-as (text r)) ∙ same-tabbed (unescaped-chars (text r)) defined apart-defined)
+    (ap (λ l. same l defined) (unescaped-as (text r)) ∙ same-tabbed (unescaped-chars (text r)) defined refl .0)
 
 -- Runs made tokens.
 module _ {S : Type 0} (j : ℕ → ℕ) (k : Run (Run ℕ ℕ) S → ℕ) (e : (r : Run (Run ℕ ℕ) S) → k (run-as (run-as as-tab j) (λ q. q) r) ≡ k r) where
