@@ -30,7 +30,7 @@ const CLASSES: [u8; 256] = [
     Kind::ERROR,
     Class::WS,
     Class::NEWLINE,
-    Class::WS,
+    Class::WS, // The vertical tab (Req 02).
     Class::WS,
     Class::NEWLINE,
     Kind::ERROR,

@@ -1,6 +1,6 @@
 -- Req 02: a source, and what is read of it, with a tab in place of each vertical tab.
 use Prim.Native.Nat.{ℕ}
-use mathlib.Core.List.{List, map}
+use mathlib.Core.List.{List, [], map}
 use lib.Dec.{eqb}
 use Rattle.definition.specs.Text.{if_then_else_, byte}
 use Rattle.definition.specs.Newline.{VT}
@@ -23,14 +23,17 @@ tabbed-token t = record { kind = t .kind; head = as-tab (t .head); tail = tabbed
 abbrev pub tabbed-leaf : Leaf → Leaf
 tabbed-leaf t = record { kind = t .kind; start = t .start; bytes = tabbed (t .bytes) }
 
--- A row of trees, and what a reader gets.
+-- A row of leaves, a row of trees, and what a reader gets.
+abbrev pub tabbed-row : List Leaf → List Leaf
+tabbed-row ts = map tabbed-leaf ts
+
 unfoldable pub tabbed-forest : Forest → Forest
 tabbed-forest nil = nil
 tabbed-forest (leaf t f) = leaf (tabbed-leaf t) (tabbed-forest f)
 tabbed-forest (node k c f) = node k (tabbed-forest c) (tabbed-forest f)
 
 abbrev pub tabbed-got : Got → Got
-tabbed-got g = record { tree = tabbed-forest (g .tree); errs = g .errs; rest = map tabbed-leaf (g .rest) }
+tabbed-got g = record { tree = tabbed-forest (g .tree); errs = g .errs; rest = tabbed-row (g .rest) }
 
 -- What a call leaves in a table of bytes.
 abbrev pub tabbed-filled : Filled → Filled

@@ -3,25 +3,25 @@ use Prim.Native.Nat.{ℕ, zero, suc, _+_, _-_, _≤_}
 use native.Mathlib.Omega.{arith}
 use mathlib.Core.Path.{_≡_, refl, ap, ap₂, sym, _∙_}
 use mathlib.Core.Bool.{Bool, true, false, not, _&&_, _||_, and-eq-true-iff}
-use mathlib.Core.List.{List, [], _∷_, _++_, map, map-append}
+use mathlib.Core.List.{List, [], _∷_, _++_, map-append}
 use mathlib.Core.Option.{Option, none, some, Option·none-ne-some, Option·some-injective}
 use lib.Dec.{eqb, leb, ltb}
 use lib.ListN.{length, length-map, replicate}
 use borrow.Author.Tests.{leb-true, lt-leb}
 use Rattle.definition.specs.Text.{if_then_else_, byte}
 use Rattle.definition.specs.SyntaxKind.{Kind}
-use Rattle.definition.specs.Utf8.{Span, CharForm, within, char-forms, follow, Left, left, is-nothing, is-cut, utf8, ends-inside}
+use Rattle.definition.specs.Utf8.{Span, CharForm, within, char-forms, follow, left, is-nothing, is-cut, utf8, ends-inside}
 use Rattle.definition.specs.Newline.{VT}
 use Rattle.definition.specs.LineMap.{line-starts}
 use Rattle.definition.specs.Unescaped.{unescaped}
 use Rattle.definition.specs.Glue.{tokens, token-numbers}
 use Rattle.definition.specs.Tree.{Leaf, long, Forest, nil, leaf, node, leaves, size, entries, leaf-entry, node-entry, entry-numbers, body-kind, concat-ops, body-concats}
 use Rattle.definition.specs.Syntax.{parse, parse-define-body}
-use Rattle.definition.specs.Calls.{Check, Refusal, longest-source, refusal, source-checks, too-many-concats, short-table, counted, padded, filled, Full, full-reading, entries-of, errors-of, outcome, reading, Filled, fills, reading-body, listing-tokens, building-lines, unescaping}
-use Rattle.theorems.specs.Tabbed.{as-tab, tabbed, tabbed-leaf, tabbed-forest, tabbed-filled}
+use Rattle.definition.specs.Calls.{Check, Refusal, longest-source, refusal, source-checks, too-many-concats, short-table, counted, padded, filled, full-reading, entries-of, errors-of, outcome, reading, Filled, fills, reading-body, listing-tokens, building-lines, unescaping}
+use Rattle.theorems.specs.Tabbed.{as-tab, tabbed, tabbed-leaf, tabbed-row, tabbed-forest, tabbed-filled}
 use Rattle.theorems.proofs.Tabbed.Tokens.{by-tab, tokens-tabbed, numbers-tabbed, lines-tabbed, unescaped-tabbed}
-use Rattle.theorems.proofs.Tabbed.Readers.{rows, if-as}
-use Rattle.theorems.proofs.Tabbed.Items.{parse-tabbed, body-tabbed}
+use Rattle.theorems.proofs.Tabbed.Readers.{if-as}
+use Rattle.theorems.proofs.Tabbed.Items.{parse-tabbed, define-body-tabbed}
 
 -- UTF-8: neither tab is a later byte of a character.
 abbrev high : List Span → Bool
@@ -98,12 +98,12 @@ entries-tabbed l at (node k c f) =
     ap (λ n. node-entry k l at (at + n) ∷ (entries (l + 1) at (tabbed-forest c) ++ entries l (at + n) (tabbed-forest f))) (size-tabbed c)
     ∙ ap₂ (λ es fs. node-entry k l at (at + size c) ∷ (es ++ fs)) (entries-tabbed (l + 1) at c) (entries-tabbed l (at + size c) f)
 
-ops-tabbed : (ts : List Leaf) → concat-ops (rows ts) ≡ concat-ops ts
+ops-tabbed : (ts : List Leaf) → concat-ops (tabbed-row ts) ≡ concat-ops ts
 unfolding concat-ops
 ops-tabbed [] = refl
 ops-tabbed (t ∷ ts) = ap (λ n. (if eqb (t .kind) Kind.PP_CONCAT_OP then 1 else 0) + n) (ops-tabbed ts)
 
-forest-leaves : (f : Forest) → leaves (tabbed-forest f) ≡ rows (leaves f)
+forest-leaves : (f : Forest) → leaves (tabbed-forest f) ≡ tabbed-row (leaves f)
 unfolding leaves tabbed-forest
 forest-leaves nil = refl
 forest-leaves (leaf t f) = ap (λ l. tabbed-leaf t ∷ l) (forest-leaves f)
@@ -144,7 +144,7 @@ module _ (src : List ℕ) (room : ℕ) where
       ap₂
       (λ cs f. fills (refusal (cs ++ (too-many-concats (body-concats f) ∷ short-table Refusal.ENTRIES (entry-numbers (entries 0 0 f)) room ∷ []))) (length (entries 0 0 f)) (entry-numbers (entries 0 0 f)) room)
       (checks-tabbed src)
-      (body-tabbed src)
+      (define-body-tabbed src)
       ∙ ap₂
       (λ es ns. fills (refusal (source-checks src ++ (too-many-concats ns ∷ short-table Refusal.ENTRIES (entry-numbers es) room ∷ []))) (length es) (entry-numbers es) room)
       (entries-tabbed 0 0 f)

@@ -1,6 +1,6 @@
 -- The runs of a row whose elements are renamed: they are the row's runs, renamed, where neither step tells the difference.
 use mathlib.Core.Path.{_≡_, refl, ap, sym, _∙_}
-use mathlib.Core.List.{List, [], _∷_, _++_, map, map-append}
+use mathlib.Core.List.{List, [], _∷_, map, map-append}
 use mathlib.Core.Option.{Option, none, some}
 use Rattle.definition.specs.Runs.{Run, Row, put, list, joined, runs, grouped}
 

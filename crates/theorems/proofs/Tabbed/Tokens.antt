@@ -10,10 +10,10 @@ use borrow.Author.Tests.{ne-eqb, eqb-true, eqb-false}
 use Rattle.definition.specs.Text.{if_then_else_, among, one-of, byte, ascii, same}
 use Rattle.definition.specs.SyntaxKind.{Kind}
 use Rattle.definition.specs.Runs.{Run, text, joined, grouped}
-use Rattle.definition.specs.Newline.{LF, CR, CRLF, VT, char-more, chars, newline}
+use Rattle.definition.specs.Newline.{LF, CR, VT, char-more, chars, newline}
 use Rattle.definition.specs.LineMap.{newline-ends, line-starts}
 use Rattle.definition.specs.Unescaped.{unescaped-chars, unescaped}
-use Rattle.definition.specs.Pre.{State, Place, done, slash, ident, single-comment, multi-comment, multi-comment-star, whitespace, quote-string, angle-string, backslash as behind-backslash, digits, alone, in-ident, in-comment, in-digits, begin, flag, more, Pre, pre-begin, pre-more, pres, kind-of}
+use Rattle.definition.specs.Pre.{State, done, slash, ident, single-comment, multi-comment, multi-comment-star, whitespace, quote-string, angle-string, backslash as behind-backslash, digits, alone, in-ident, in-comment, in-digits, begin, flag, more, Pre, pre-begin, pre-more, pres, kind-of}
 use Rattle.definition.specs.Glue.{Token, tokens, flat, defined, pre-kind, token-numbers}
 use Rattle.definition.specs.Tree.{Leaf, placed}
 use Rattle.theorems.specs.Step.{glue-begin, glue-more}
