@@ -1,4 +1,5 @@
--- The other calls, and tables of other lengths: recorded answers of the Rust (`compare/pins.py` writes them) with 01's rules for refusals.
+-- The other calls, and tables of other lengths: recorded answers of the Rust (`compare/pins.py` writes them) with 01's rules for refusals;
+-- where a source holds vertical tabs, the answer to it with tabs, and of unescaping the answer to it as it is (Req 02).
 use Prim.Native.String.{String}
 use mathlib.Core.Path.{_≡_, refl}
 use Rattle.definition.specs.Text.{ℕ, _+_, _-_, Bool, true, _&&_, List, [], _∷_, _++_, length, replicate, ascii, same}

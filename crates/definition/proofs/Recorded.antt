@@ -1,4 +1,5 @@
--- Recorded answers of the Rust, for what the worked readings leave open (`compare/pins.py` writes them).
+-- Recorded answers of the Rust, for what the worked readings leave open (`compare/pins.py` writes them); where a source holds vertical
+-- tabs, the answer to it with tabs (Req 02).
 use mathlib.Core.Path.{_≡_, refl}
 use Rattle.definition.specs.Text.{ℕ, true, List, [], _∷_, _++_, ascii}
 use Rattle.definition.specs.SyntaxKind.{Kind as K}
