@@ -12,7 +12,7 @@ use crate::{
     exports::{self, Counted, Pasted, Place},
     lender::{Lender, Number},
     reading::Reader,
-    Random,
+    tabs, Random,
 };
 
 /// The calls compared, in the order in which they are counted
@@ -35,13 +35,22 @@ const LONG_LINE_TABLE: usize = 100_000;
 #[derive(Default, Clone, Copy)]
 pub struct Tally {
     pub inputs: u64,
+    /// Sources among them with a vertical tab
+    pub tabs: u64,
     pub calls: [u64; CALLS.len()],
     pub differences: u64,
 }
 
 impl Tally {
+    /// Counts a source
+    pub(crate) fn source(&mut self, source: &[u8]) {
+        self.inputs += 1;
+        self.tabs += tabs::has(source) as u64;
+    }
+
     pub fn add(&mut self, other: &Tally) {
         self.inputs += other.inputs;
+        self.tabs += other.tabs;
         self.calls.iter_mut().zip(other.calls).for_each(|(n, m)| *n += m);
         self.differences += other.differences;
     }
@@ -68,14 +77,15 @@ impl Checker {
 
     /// Compares the tokens, the line table and the unescaped text of a source, and lookups in its lines
     pub fn source(&mut self, source: &[u8]) {
-        self.tally.inputs += 1;
+        self.tally.source(source);
+        let asked = tabs::asked(source);
         let Self { tally, random, numbers, bytes, .. } = self;
 
-        let tokens = calls::tokens(source);
+        let tokens = calls::tokens(&asked);
         let want = tokens.as_ref().map(|t| (t.len(), t.as_flattened())).map_err(|&rust| cut::refusal(rust, source));
         fills(tally, random, numbers, TOKENS, source, want, exports::tokens);
 
-        let lines = calls::lines(source);
+        let lines = calls::lines(&asked);
         let want = lines.as_ref().map(|l| (l.len(), &l[..])).map_err(|&rust| cut::refusal(rust, source));
         fills(tally, random, numbers, LINES, source, want, exports::line_table);
 

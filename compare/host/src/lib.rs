@@ -12,7 +12,9 @@ pub mod large;
 pub mod lender;
 pub mod reading;
 pub mod shapes;
+pub mod tab_sources;
 pub mod tables;
+pub mod tabs;
 
 /// Random numbers (splitmix64)
 #[derive(Default)]

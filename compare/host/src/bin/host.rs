@@ -99,6 +99,7 @@ fn run(plan: Plan) -> Tally {
     println!("{}", figures("all", &total, start.elapsed()));
     let calls: Vec<String> = CALLS.iter().zip(total.calls).map(|(call, n)| format!("{call} {n}")).collect();
     println!("calls compared: {}", calls.join(", "));
+    println!("sources with vertical tabs, of which the Rust was asked with tabs: {}", total.tabs);
     println!("{}", if total.differences == 0 { "no difference" } else { "DIFFERENCES" });
     total
 }
