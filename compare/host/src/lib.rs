@@ -1,5 +1,6 @@
-//! Compares the exports of the static library with the Rust's answers.
+//! Compares the exports of the static library with the Rust's answers, or with those of an earlier library.
 
+pub mod before;
 pub mod checker;
 pub mod claims;
 pub mod cut;

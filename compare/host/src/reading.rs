@@ -103,6 +103,9 @@ impl Wanted {
 impl Checker {
     /// Compares the reading of a source, and the reading of it as a define body
     pub fn reading(&mut self, source: &[u8]) {
+        if self.earlier.is_some() {
+            return self.libraries(source);
+        }
         self.tally.source(source);
         self.reader.wanted.ask(source);
         for rooms in self.reader.wanted.rooms(&mut self.random, source.len()) {
