@@ -3,8 +3,8 @@
 #
 # The static library is proved and built first by `rt staticlib shader_reader`; if LIBRARY is set, the file
 # libshader_reader.a that it names is linked instead. If BEFORE is set, the libshader_reader.a of an earlier
-# commit that it names is linked beside it, for `bench` to time. The Rust's files are looked for in
-# ORACLE/../docs/src, or in the folder that ORACLE_DOCS names.
+# commit that it names is linked beside it, for `host` to compare with and `bench` to time. The Rust's files
+# are looked for in ORACLE/../docs/src, or in the folder that ORACLE_DOCS names.
 set -eu
 top=$(cd "$(dirname "$0")/.." && pwd)
 [ $# -eq 1 ] && [ -f "$1/Cargo.toml" ] || { echo "usage: build.sh ORACLE, the folder of the oracle" >&2; exit 2; }

@@ -4,16 +4,17 @@
 usage: definition.py ORACLE [SOURCES]
 
 ORACLE is the folder of the oracle, built (`cargo build --offline --release`); SOURCES is how many sources are
-compared (2400 by default): short exhaustive ones over several alphabets, random and mutated ones. Every source goes
-through reading, body, tokens, lines and unescaping, with tables just long enough and, of each call, one number short;
-lookups and pastes get inputs of their own. So do these five calls on sources that are refused, with no table and with
-some: each beginning of a character (cut.py) alone, some of them behind text and before it, and what is no beginning.
+compared (2400 by default): short exhaustive ones over several alphabets, random and mutated ones; and behind these some
+that hold vertical tabs, of which the Rust is asked with tabs in their place (tabs.py). Every source goes through
+reading, body, tokens, lines and unescaping, with tables just long enough and, of each call, one number short; lookups
+and pastes get inputs of their own. So do these five calls on sources that are refused, with no table and with some: each
+beginning of a character (cut.py) alone, some of them behind text and before it, and what is no beginning.
 Works in target/compare; prints what was compared, and each difference.
 """
 import os, random, re, shutil, subprocess, sys
 from pathlib import Path
 
-import cut
+import cut, tabs
 
 if len(sys.argv) < 2:
     sys.exit(__doc__)
@@ -39,7 +40,7 @@ def batch(sources):
 def answers(call, sources):
     """The numbers of each answer, in the order in which they are printed, without the words."""
     out, one = [], []
-    for line in run("oracle", "batch", call, given=batch(sources)).decode().splitlines():
+    for line in run("oracle", "batch", call, given=batch([tabs.asked(call, s) for s in sources])).decode().splitlines():
         word, *numbers = line.split(",")
         if word == "end":
             out.append([cut.refusal(one[0], sources[len(out)]), *one[1:]])
@@ -65,6 +66,25 @@ def sources():
         found += [s for s in more[:WANT // 4 + 1]]
     found += [b"#define a " + b"##b" * 256 + b"\n", b"#define a " + b"##b" * 257 + b"\n", b"#if ##\n" + b"## " * 3]
     return list(dict.fromkeys(found))
+
+# Pieces, rows of at most so many, and what stands before; and as many ## as a reading takes, and one more.
+TAB_ROWS = [(r"\x0b \t \s # \n a", 4, ""), (r"\x0b ( ) # a", 4, ""), (r"\x0b \\ \n \r", 4, ""), (r"\x0b \\ a 1 \n", 3, ""), (r"\x0b ( a ) , \n", 4, "#define f"),
+            (r"\x0b ## a \n", 4, "#define a"), (r"\x0b < > \x22 \n", 4, "#include"), (r"\x0b a : \n", 4, "#extension"), (r"\x0b 1 a \n", 3, r"#\x0bversion"),
+            (r"\x0b a \n #", 3, r"\x0b#undef"), (r"\x0b * / \n", 4, "/*"), (r"\x0b \\ \n a", 4, "//"), (r"\x0b \x22 \\ \n", 4, r"\x22"), (r"\x0b \xc3 \xa9 \xe2", 3, "")]
+TAB_CONCATS = [b"#if" + b"\x0b##" * count + b"\n" for count in (256, 257)]
+
+def tab_sources(found):
+    """Others with vertical tabs: the first of each row and some behind them, and random and mutated sources into which they are put."""
+    random.seed(4)
+    count, more = WANT // 100, []
+    for pieces, most, prefix in TAB_ROWS:
+        row = [s for s in inputs(run("gen", "exhaust", pieces, 0, most, prefix)) if tabs.holds(s)]
+        first, behind = row[:count // 4], row[count // 4:]
+        more += first + random.sample(behind, min(count - len(first), len(behind)))
+    for kind, seed in (("random", 13), ("mutate", 14)):
+        short = [s for s in inputs(run("gen", kind, seed, WANT)) if 4 <= len(s) <= LONGEST // 2]
+        more += map(tabs.put, short[:2 * count])
+    return [s for s in dict.fromkeys(more + TAB_CONCATS) if s not in found]
 
 # What is no beginning of a character, or ends like one behind something that is no character.
 BROKEN = [bytes.fromhex(x) for x in "80 BF C0 C1 F5 FF C080 E080 E09F EDA0 EDBF F080 F08F F490 F480C3 FFC3 C3C3 C3E9 E282E282 C3C3A9 E941".split()]
@@ -178,6 +198,7 @@ def refused_tests(given):
 def main():
     found = sources()
     given = refused(found)
+    found += tab_sources(found)
     all_tests = tests(found) + list(refused_tests(given))
     shutil.rmtree(WORK, ignore_errors=True)
     specs = WORK / "crates/compared/specs"
@@ -199,7 +220,7 @@ def main():
     (WORK / "out").write_text(done.stdout)
     for line in re.findall(r"^.*: error.*$", done.stdout, re.M)[:20]:
         print(line[:600])
-    print(f"{len(found)} sources;", ", ".join(f"{c} {n}" for c, n in counts.items()), f"outcomes, and {len(given)} refused sources compared:", "no difference" if done.returncode == 0 else "DIFFERENCES")
+    print(f"{len(found)} sources, {sum(map(tabs.holds, found))} of them with vertical tabs;", ", ".join(f"{c} {n}" for c, n in counts.items()), f"outcomes, and {len(given)} refused sources compared:", "no difference" if done.returncode == 0 else "DIFFERENCES")
     return done.returncode
 
 sys.exit(main())

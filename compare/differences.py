@@ -6,12 +6,13 @@ usage: differences.py ORACLE
 ORACLE is the folder of the oracle, built (`cargo build --offline --release`). In an input ⏎ is byte 10 and «0B» the byte
 of that number; "2 times `a` and `b`" is aab; "kinds 1 and 3" are pasted, "offset 0, no line" is looked up. The exit
 status is 1 if a row names a kind or a refusal that none of its listings has, or is wrong about there being errors. A
-source that ends inside a character is listed with 10 (`cut.py`), where the Rust refuses it by 2.
+source that ends inside a character is listed with 10 (`cut.py`), where the Rust refuses it by 2; an input with «0B» goes
+through the Rust with a tab in its place (`tabs.py`).
 """
 import re, subprocess, sys
 from pathlib import Path
 
-import cut
+import cut, tabs
 
 if len(sys.argv) != 2:
     sys.exit(__doc__)
@@ -33,7 +34,7 @@ def inputs(cell):  # How each stands in the paper, the words of its call, and th
 
 def listing(words, given):  # The tree with brackets, and errors and lines as they are; and whether there are errors.
     tree, depth, others, errors = "", 0, "", False
-    rust = subprocess.run([ORACLE, *words], input=given, stdout=subprocess.PIPE, check=True).stdout.decode()
+    rust = subprocess.run([ORACLE, *words], input=tabs.asked(words[-1], given), stdout=subprocess.PIPE, check=True).stdout.decode()
     for line in cut.listing(rust, given).split():
         f = line.split(",")
         if f[0] in ("node", "leaf"):

@@ -6,12 +6,13 @@ usage: pins.py ORACLE
 ORACLE is the folder of the oracle, built. A row is a call with its input, and behind it the answer in parentheses. The
 answers are written anew, so a row is added as its call with `()` behind it; a file whose answers are the Rust's stays as it is.
 The input is a text, or in parentheses a row of bytes, in which texts may stand too; the call's name then ends with `-of`. A source
-that ends inside a character is refused by 10 (`cut.py`), where the Rust refuses it by 2.
+that ends inside a character is refused by 10 (`cut.py`), where the Rust refuses it by 2; of one with vertical tabs the Rust's
+answer to tabs in their place is put in, but for unescaping (`tabs.py`).
 """
 import re, subprocess, sys
 from pathlib import Path
 
-import cut
+import cut, tabs
 
 if len(sys.argv) < 2:
     sys.exit(__doc__)
@@ -50,7 +51,7 @@ def piece(line):
 
 def answer(call, term):
     given = source(term)
-    got = subprocess.run([str(ORACLE), CALLS[call]], input=given, stdout=subprocess.PIPE, check=True).stdout.decode()
+    got = subprocess.run([str(ORACLE), CALLS[call]], input=tabs.asked(CALLS[call], given), stdout=subprocess.PIPE, check=True).stdout.decode()
     return [piece(line) for line in cut.listing(got, given).splitlines()]
 
 def laid(row, pieces):

@@ -6,12 +6,13 @@ usage: readings.py ORACLE CRATE
 ORACLE is the folder of the oracle, built. CRATE (crates/readings) gets data/NAME for each source, their names in args, and
 stdout: the listing of each source, or `long`, and then a line for each length of tables: refusal, counts, and how many
 numbers of each table are not 0 afterwards. Of tables that are too short, which the Rust does not have, it is document 01's
-answer. A source that ends inside a character is refused by 10 (`cut.py`), where the Rust refuses it by 2.
+answer. A source that ends inside a character is refused by 10 (`cut.py`), where the Rust refuses it by 2; one with vertical
+tabs is shown by its answer to tabs in their place (`tabs.py`).
 """
 import subprocess, sys
 from pathlib import Path
 
-import cut
+import cut, tabs
 
 if len(sys.argv) != 3:
     sys.exit(__doc__)
@@ -19,7 +20,7 @@ ORACLE, CRATE = Path(sys.argv[1]) / "target/release/oracle", Path(sys.argv[2])
 LONGEST = 512
 
 # The worked readings of document 01, sources that are not UTF-8, 256 and 257 ## in each body, in a group and in text; sources that end
-# inside a character, and others that end as if they did.
+# inside a character, and others that end as if they did; sources with vertical tabs.
 SOURCES = {
     "empty": b"", "hash": b"#", "pp_empty": b"#\n", "undef": b"#undef\nfoo\n", "group": b"#(a)\n", "stars": b"/***/", "digits": b"1.2.3",
     "backslash": b"abc\\d", "newlines": b"\n\r\n", "left_op": b"<<<", "comma": b"#define F(a,) a\n", "version": b"#version\ncore\n", "unknown": b"#a",
@@ -32,12 +33,18 @@ SOURCES = {
     "latin_1": b"/* \xe9t\xe9 */\n", "latin_1_end": b"// caf\xe9",
     **{"broken_" + end.hex("_"): end for end in (b"\xc3\xc3", b"\xff\xc3", b"\xc0", b"\xc1", b"\xf5", b"\xe0\x80", b"\xed\xa0", b"\xf0\x80", b"\xf4\x90")},
     "broken_text": b"#undef a\n\xc3\xc3", "broken_257": b"#if " + b"##" * 257 + b"\n\xff\xc3",
+    "vt_alone": b"\x0b", "vt_blanks": b"a \x0b\t\x0c\x0bb\x0b\n\x0b", "vt_before_hash": b"\x0b#else\n", "vt_behind_hash": b"#\x0belse\n", "vt_hash": b"\x0b#\x0b", "vt_text": b"a\x0b#else\n",
+    "vt_directive": b"\x0b#\x0bifdef\x0ba\x0b\n#\x0bendif\x0b\n", "vt_define": b"#define\x0bf(\x0ba\x0b,\x0bb\x0b)\x0ba\x0b##\x0bb\x0b\n", "vt_no_arguments": b"#define f\x0b(a)\n",
+    "vt_undef": b"#undef\x0b\na\x0b\n", "vt_unknown": b"#\x0bfoo\x0ba\n", "vt_extra": b"#else\x0ba\x0bb\n", "vt_version": b"#version\x0b450\x0bcore\n", "vt_extension": b"#extension\x0ba\x0b:\x0bb\n",
+    "vt_include": b"#include\x0b<a\x0bb>\x0b\n", "vt_group": b"#\x0b(\x0ba\x0b)\x0b#\n", "vt_comment": b"/*\x0b*/\x0b//\x0b\\\x0b\n", "vt_string": b"\"\x0b\"\x0b\"\x0b", "vt_backslash": b"\\\x0b\n\x0b\\\n\x0ba\\\x0b",
+    "vt_parts": b"de\x0bfined 1\x0b.5 <\x0b< /\x0b*", "vt_characters": "\xe9\v\u20ac\v".encode(), "vt_256": b"#if" + b"\x0b##" * 256 + b"\n", "vt_257": b"#if" + b"\x0b##" * 257 + b"\n",
+    "vt_refused": b"#undef\x0ba\x0b\xe2\x82", "vt_broken": b"\xe2\x0b\x82",
 }
 SOURCES = {name.replace("define a", "define"): source for name, source in SOURCES.items()}
 
 def answered(call, source):
     """The listing of a call, and its numbers, line by line."""
-    listing = cut.listing(subprocess.run([str(ORACLE), call], input=source, stdout=subprocess.PIPE, check=True).stdout.decode(), source)
+    listing = cut.listing(subprocess.run([str(ORACLE), call], input=tabs.asked(call, source), stdout=subprocess.PIPE, check=True).stdout.decode(), source)
     return listing, [line.split(",") for line in listing.splitlines()]
 
 def row(words, *numbers):

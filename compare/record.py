@@ -15,13 +15,14 @@ is one byte, below 254; or 254 and two bytes; or 255 and four.
   paste: n is the first kind, the input the second (four bytes). Answer: refusal, kind.
 Tables are just long enough, and some longer or one number short, of a reading each alone and together. The Rust has no
 tables: what it does not use of one is 0, and of one that is too short document 01's answer is recorded, the refusal,
-counts of 0, and zeros. It refuses a source that ends inside a character by 2, where 10 is recorded (`cut.py`).
-Nothing is left to chance: two runs write the same bytes.
+counts of 0, and zeros. It refuses a source that ends inside a character by 2, where 10 is recorded (`cut.py`); of a source
+with vertical tabs its answer to tabs in their place is recorded, but for unescaping (`tabs.py`). Nothing is left to
+chance: two runs write the same bytes.
 """
 import itertools, random, struct, subprocess, sys
 from pathlib import Path
 
-import cut
+import cut, tabs
 
 if len(sys.argv) != 3:
     sys.exit(__doc__)
@@ -54,6 +55,20 @@ BROKEN_ENDS = [b"\xc3\xc3", b"\xff\xc3", b"\xc0", b"\xc1", b"\xf5", b"\xe0\x80",
 # What stands before them: nothing, text, characters, comments, directives, bodies; and before two of them, bodies of too many ##.
 FRONTS = [b"", b"a\n", "\xe9\u20ac\U0001f600".encode(), b"// ", b"a /*\n", b"#undef ", b"#define f(a) b", b"#if a ## ", b"#a\n#include <", b"a ## b\\\n"]
 LONG_FRONTS = [b"#if " + b"##" * 257 + b"\n", b"##" * 257]
+
+# Vertical tabs: alone and beside other blanks; before HASH, between it and the word, and between the leaves of directives; in groups, bodies, comments
+# and strings; behind a backslash; beside continuations and newlines, and where they part a word, a number or an operator.
+TABS = [s.encode() for s in (
+    "\v\v", " \v", "\v\t\f\v ", "a\v", "\v#\n", "#\v\n", "\v#\v", "a\v#\n", "\v#\vundef\va\v\n", "#undef\v\na\v", "#\va\v", "#define f\v(a)\vb\n", "#define f(\va\v,\vb\v)\v\n",
+    "#define a\vb\v##\vc\v\n", "#include\v<a\vb>\v\n", "#version\v450\vcore\n", "#extension\va\v:\vb\v\n", "#else\va\v\n", "#(\va\v)\v#\n", "/*\v*/\v", "//\v\n\v", "\"\v\"\v", "\\\v\n", "\v\\\n\v", "//\\\v\n")]
+MORE_TABS = [s.encode() for s in (
+    "\n\v\r\v\n", "\v\\\v", "\v\\\r\n", "a\\\v", "a\\\n\v", "de\vfined", "1\v.5", "1e\v+3", "<\v<", "/\v*", "/*\v", "/**\v/", "/*\\\v\n*/", "\"\v", "\"\v\n\\\v\"", "\v@\v", "\xe9\v\u20ac\v\U0001f600",
+    "/**/\v#\v/**/\vundef a\n", " \v#\t\vdefine\f\va\n", "#\vinclude\v\"a\v\"\n", "#include\v<\v", "#include\v\n", "#define\v\n", "#define\va\v\n", "#define\vf(a\vb,)\n", "#define\vf(\v1\n", "#undef\v1\v\n",
+    "#line\v1\v2\n", "#error\va\v", "#pragma\v\n", "#version\v\ncore\n", "#version\v1\va\vb\n", "#if\v##\v\n", "#if a ##\v", "#ifdef\va\vb\n", "#ifndef\v\n", "#elif\va\v//\v\n", "#endif\v/*\v*/\v\n",
+    "#extension\v:\v\n", "#extension\va\v\n:", "#\v(a)\n", "#(\v#\va\v", "#a\v##\n", "a\v##\vb\v", "\v##", "\v(\v)")]
+# Pieces, rows of at most so many, what stands before, and how many of these sources that hold vertical tabs are kept.
+TAB_ROWS = [(r"\x0b \s # \n a (", 4, "", 50), (r"\x0b \\ \n \r a", 4, "", 30), (r"\x0b ( a ) , \n", 4, "#define f", 40), (r"\x0b ## a \n", 4, "#if", 30), (r"\x0b < > \x22 \n", 4, "#include", 30),
+            (r"\x0b * / \n", 4, "/*", 16)]
 
 # The fourteen words, and what may stand behind one: right for some of them, wrong for others.
 WORDS = ["include", "define", "undef", "line", "error", "pragma", "version", "if", "ifdef", "ifndef", "elif", "else", "endif", "extension"]
@@ -88,7 +103,7 @@ def generated(*words):
 
 def answers(call, inputs):
     """The numbers of each answer, without the words."""
-    batch = b"".join(b"%d\n%s\n" % (len(i), i) for i in inputs)
+    batch = b"".join(b"%d\n%s\n" % (len(i), i) for i in (tabs.asked(call, i) for i in inputs))
     found, one = [], []
     for line in run("oracle", "batch", call, given=batch).decode().splitlines():
         word, *numbers = line.split(",")
@@ -148,10 +163,10 @@ def pastes():
     refused = [(0, 1), (1, 0), (0, 0), (35, 1), (1, 35), (35, 22), (5, 35), (87, 1), (1, 87), (87, 5), (65537, 1), (1, 65536 + 28), (2**32 - 1, 1), (28, 2**32 - 1)]
     return list(dict.fromkeys(glued + random.sample(every, 200) + errors + refused))
 
-def rows(table):
-    """Rows over alphabets, so many of each."""
+def rows(table, wanted=lambda source: True):
+    """Rows over alphabets, so many of each that are wanted."""
     for pieces, most, prefix, count in table:
-        yield from spread(list(dict.fromkeys(generated("exhaust", pieces, 0, most, prefix))), count)
+        yield from spread([source for source in dict.fromkeys(generated("exhaust", pieces, 0, most, prefix)) if wanted(source)], count)
 
 def chosen(kind, seed, count):
     """Random sources, so many, the shorter ones among four times as many."""
@@ -193,9 +208,8 @@ def read_rooms(needs, thoroughly):
         return [needs, random.choice(short)]
     return [needs]
 
-def read_records():
-    """A reading's, as n, input and answer."""
-    found = read_sources()
+def read_records(found):
+    """A reading's, as call, n, input and answer."""
     for (source, thoroughly), answer in zip(found.items(), answers("read", list(found))):
         refusal, *counts = answer[:4]
         needs = 5 * counts[0], 10 * counts[1], counts[2]
@@ -205,9 +219,9 @@ def read_records():
             given = numbers(*rooms[1:]) + source
             short = [refusal] * (refusal > 0) + [n for n, room, need in zip((4, 5, 6), rooms, needs) if room < need]
             if short:
-                yield rooms[0], given, [short[0], 0, 0, 0] + [0] * sum(rooms)
+                yield "read", rooms[0], given, [short[0], 0, 0, 0] + [0] * sum(rooms)
             else:
-                yield rooms[0], given, answer[:4] + [n for table, room in zip(tables, rooms) for n in table + [0] * (room - len(table))]
+                yield "read", rooms[0], given, answer[:4] + [n for table, room in zip(tables, rooms) for n in table + [0] * (room - len(table))]
 
 def numbers(*row):
     return struct.pack(f"<{len(row)}I", *row)
@@ -216,9 +230,9 @@ def compact(*row):
     """Numbers of an answer."""
     return b"".join(struct.pack("<B", n) if n < 254 else struct.pack("<BH", 254, n) if n < 65_536 else struct.pack("<BI", 255, n) for n in row)
 
-def rooms(source, need):
-    """Lengths of tables for a source that needs so many numbers, besides just enough."""
-    if source in WORKED + BORDERS + NOT_UTF8:
+def rooms(need, thoroughly):
+    """Lengths of tables where so many numbers are needed, besides just enough."""
+    if thoroughly:
         yield from (need - 1, need + 2)
     elif 1 <= need <= 13 and random.random() < 0.1:
         yield need - 1
@@ -230,28 +244,34 @@ def with_room(call, answer, room):
         return [TOO_SHORT[call], 0] + [0] * room
     return answer + [0] * (room - len(table))
 
+def table_records(call, found):
+    """The same for tokens, line table and unescaping."""
+    for (source, thoroughly), answer in zip(found.items(), answers(call, list(found))):
+        need = len(answer) - 2
+        for room in (need, *rooms(need, thoroughly)):
+            if 0 <= room:
+                yield call, room, source, with_room(call, answer, room)
+
+def body_records(found):
+    """The same for bodies."""
+    for (source, thoroughly), answer in zip(found.items(), answers("body", list(found))):
+        need = len(answer) - 2
+        for room in (need, *([need - 1, need + 7, 0] if thoroughly or random.random() < 0.15 else [])):
+            if 0 <= room:
+                yield "body", room, source, with_room("body", answer, room)
+
 def records():
-    """Each call's, as n, input and answer."""
+    """Each call's."""
     for call, row in zip(("tokens", "lines", "unescape"), sources()):
-        for source, answer in zip(row, answers(call, row)):
-            need = len(answer) - 2
-            for room in (need, *rooms(source, need)):
-                if 0 <= room:
-                    yield call, room, source, with_room(call, answer, room)
+        yield from table_records(call, {source: source in WORKED + BORDERS + NOT_UTF8 for source in row})
     row = lookups()
     for (offset, starts), answer in zip(row, answers("lookup", [" ".join(map(str, [offset, *starts])).encode() for offset, starts in row])):
         yield "lookup", offset, numbers(*starts), answer
     row = pastes()
     for (lhs, rhs), answer in zip(row, answers("paste", [b"%d %d" % pair for pair in row])):
         yield "paste", lhs, numbers(rhs), answer
-    for record in read_records():
-        yield "read", *record
-    found = body_sources()
-    for (source, thoroughly), answer in zip(found.items(), answers("body", list(found))):
-        need = len(answer) - 2
-        for room in (need, *([need - 1, need + 7, 0] if thoroughly or random.random() < 0.15 else [])):
-            if 0 <= room:
-                yield "body", room, source, with_room("body", answer, room)
+    yield from read_records(read_sources())
+    yield from body_records(body_sources())
 
 def cut_records():
     """The same of sources that end inside a character, or seem to: with as much room as the text before the end needs, less, and none."""
@@ -270,10 +290,28 @@ def cut_records():
                 for room in dict.fromkeys((need, max(need - 1, 0), 0)):
                     yield call, room, source, [refusal, 0] + [0] * room
 
+def tab_sources():
+    """Sources with vertical tabs, and whether their tables are tried in all ways."""
+    found = {source: True for source in TABS} | {source: False for source in MORE_TABS}
+    found |= {source: False for source in rows(TAB_ROWS, tabs.holds) if source not in found}
+    for kind, seed, count in ("random", 27, 60), ("mutate", 28, 60):
+        found |= {tabs.put(source): False for source in chosen(kind, seed, count)}
+    found |= {b"#if" + b"\x0b##" * count + b"\n": False for count in (256, 257)}
+    return found | {front + end: False for front in (b"\x0b", b"#undef\x0b", b"/*\x0b") for end in CUT_ENDS[:4] + BROKEN_ENDS[:4] + [b"\xe2\x0b\x82"]}
+
+def tab_records():
+    """The same of sources with vertical tabs."""
+    found = tab_sources()
+    assert all(map(tabs.holds, found))
+    for call in "tokens", "lines", "unescape":
+        yield from table_records(call, found)
+    yield from read_records(found)
+    yield from body_records(found)
+
 def main():
     random.seed(3)
     files, refusals = {}, {}
-    for call, n, given, answer in itertools.chain(records(), cut_records()):
+    for call, n, given, answer in itertools.chain(records(), cut_records(), tab_records()):
         assert len(answer) <= MOST_NUMBERS
         files.setdefault(call, []).append(struct.pack("<HI", len(given), n) + given + compact(*answer))
         found = refusals.setdefault(call, {})

@@ -1,5 +1,5 @@
 //! Links the static library that SHADER_READER_LIBRARY names, a file `libshader_reader.a`; and where
-//! SHADER_READER_BEFORE names one, an earlier library whose `shader_tokens` is named `before_shader_tokens`.
+//! SHADER_READER_BEFORE names one, an earlier library whose exports have `before_` before their names.
 
 use std::{env, path::Path};
 

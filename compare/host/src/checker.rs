@@ -1,4 +1,4 @@
-//! Runs one input through the library and through the Rust, and compares every number.
+//! Runs one input through the library and through the Rust, or an earlier library, and compares every number.
 
 use std::{
     fmt::Write,
@@ -8,19 +8,20 @@ use std::{
 use oracle::calls;
 
 use crate::{
+    before::Earlier,
     cut, damage,
-    exports::{self, Counted, Pasted, Place},
+    exports::{self, Counted, Library, Pasted, Place},
     lender::{Lender, Number},
     reading::Reader,
-    Random,
+    tabs, Random,
 };
 
 /// The calls compared, in the order in which they are counted
 pub const CALLS: [&str; 7] = ["tokens", "line table", "unescape", "define body", "lookup", "paste", "read"];
 
-const TOKENS: usize = 0;
-const LINES: usize = 1;
-const UNESCAPE: usize = 2;
+pub(crate) const TOKENS: usize = 0;
+pub(crate) const LINES: usize = 1;
+pub(crate) const UNESCAPE: usize = 2;
 pub(crate) const BODY: usize = 3;
 const LOOKUP: usize = 4;
 const PASTE: usize = 5;
@@ -35,13 +36,25 @@ const LONG_LINE_TABLE: usize = 100_000;
 #[derive(Default, Clone, Copy)]
 pub struct Tally {
     pub inputs: u64,
+    /// Sources among them with a vertical tab
+    pub tabs: u64,
+    /// Sources that were not compared
+    pub left_out: u64,
     pub calls: [u64; CALLS.len()],
     pub differences: u64,
 }
 
 impl Tally {
+    /// Counts a source
+    pub(crate) fn source(&mut self, source: &[u8]) {
+        self.inputs += 1;
+        self.tabs += tabs::has(source) as u64;
+    }
+
     pub fn add(&mut self, other: &Tally) {
         self.inputs += other.inputs;
+        self.tabs += other.tabs;
+        self.left_out += other.left_out;
         self.calls.iter_mut().zip(other.calls).for_each(|(n, m)| *n += m);
         self.differences += other.differences;
     }
@@ -57,9 +70,16 @@ pub struct Checker {
     pub(crate) numbers: Lender<u32>,
     bytes: Lender<u8>,
     pub(crate) reader: Reader,
+    /// Where this is compared with, and not the Rust
+    pub(crate) earlier: Option<Earlier>,
 }
 
 impl Checker {
+    /// Compares with the earlier library, if there is one, else with the Rust
+    pub fn beside(earlier: Option<Library>) -> Checker {
+        Checker { earlier: earlier.map(Earlier::new), ..Checker::default() }
+    }
+
     /// Makes the choice of table lengths and offsets repeatable
     pub fn begin(&mut self, seed: u64) {
         self.tally = Tally::default();
@@ -68,14 +88,18 @@ impl Checker {
 
     /// Compares the tokens, the line table and the unescaped text of a source, and lookups in its lines
     pub fn source(&mut self, source: &[u8]) {
-        self.tally.inputs += 1;
+        if self.earlier.is_some() {
+            return self.libraries(source);
+        }
+        self.tally.source(source);
+        let asked = tabs::asked(source);
         let Self { tally, random, numbers, bytes, .. } = self;
 
-        let tokens = calls::tokens(source);
+        let tokens = calls::tokens(&asked);
         let want = tokens.as_ref().map(|t| (t.len(), t.as_flattened())).map_err(|&rust| cut::refusal(rust, source));
         fills(tally, random, numbers, TOKENS, source, want, exports::tokens);
 
-        let lines = calls::lines(source);
+        let lines = calls::lines(&asked);
         let want = lines.as_ref().map(|l| (l.len(), &l[..])).map_err(|&rust| cut::refusal(rust, source));
         fills(tally, random, numbers, LINES, source, want, exports::line_table);
 
@@ -103,30 +127,32 @@ impl Checker {
 
     pub fn lookup(&mut self, lines: &[u32], offset: u32) {
         self.tally.calls[LOOKUP] += 1;
-        let want = match calls::lookup(lines, offset) {
+        let rust = || match calls::lookup(lines, offset) {
             Ok((line, column)) => Place { refusal: 0, line, column },
             Err(refusal) => Place { refusal, line: 0, column: 0 },
         };
+        let want = self.earlier.as_ref().map_or_else(rust, |earlier| (earlier.library.lookup)(lines, offset));
         let got = exports::lookup(lines, offset);
         if got != want {
             let count = lines.len();
             let lines = &lines[..count.min(40)];
             difference(&mut self.tally, LOOKUP, || {
-                format!("offset {offset}, {count} lines {lines:?}\n  Rust     {want:?}\n  library  {got:?}")
+                format!("offset {offset}, {count} lines {lines:?}\n  wanted   {want:?}\n  library  {got:?}")
             });
         }
     }
 
     pub fn paste(&mut self, lhs: u32, rhs: u32) {
         self.tally.calls[PASTE] += 1;
-        let want = match calls::paste(lhs, rhs) {
+        let rust = || match calls::paste(lhs, rhs) {
             Ok(kind) => Pasted { refusal: 0, kind },
             Err(refusal) => Pasted { refusal, kind: 0 },
         };
+        let want = self.earlier.as_ref().map_or_else(rust, |earlier| (earlier.library.paste)(lhs, rhs));
         let got = exports::paste(lhs, rhs);
         if got != want {
             difference(&mut self.tally, PASTE, || {
-                format!("kinds {lhs} and {rhs}\n  Rust     {want:?}\n  library  {got:?}")
+                format!("kinds {lhs} and {rhs}\n  wanted   {want:?}\n  library  {got:?}")
             });
         }
     }
@@ -184,7 +210,7 @@ pub(crate) fn write_unlike<T: Number>(
 ) {
     if let Some((place, got)) = unlike {
         let want = numbers.get(place).copied().unwrap_or_default();
-        write!(text, "\n  number {place} of {table}: Rust {want}, library {got}").unwrap();
+        write!(text, "\n  number {place} of {table}: wanted {want}, library {got}").unwrap();
     }
     if !untouched {
         write!(text, "\n  memory outside {table} was written").unwrap();

@@ -6,7 +6,7 @@ use crate::{
     checker::Checker,
     cut_sources,
     damage::{self, BORDERS},
-    directives, large, Random,
+    directives, large, tab_sources, Random,
 };
 
 /// Pieces, the longest row of them in a quick run and in a whole one, and what stands before
@@ -82,8 +82,13 @@ impl Plan {
 
     /// As many inputs as said, some at a time
     pub fn many(&mut self, word: &'static str, name: &'static str, count: usize, work: fn(&mut Checker, &mut Random)) {
-        const AT_ONCE: usize = 20_000;
         self.kind(word, name);
+        self.jobs_for(count, work);
+    }
+
+    /// The same for the last kind
+    pub fn jobs_for(&mut self, count: usize, work: impl Fn(&mut Checker, &mut Random) + Copy + Send + 'static) {
+        const AT_ONCE: usize = 20_000;
         let seed = self.kinds.len() << 32;
         for part in 0..count.div_ceil(AT_ONCE) {
             let count = AT_ONCE.min(count - part * AT_ONCE);
@@ -108,6 +113,7 @@ pub fn plan(quick: bool, words: &[&str]) -> Option<Plan> {
     five_calls(&mut plan, quick);
     directives::plan(&mut plan, quick);
     cut_sources::plan(&mut plan, quick);
+    tab_sources::plan(&mut plan, quick);
     let Plan { kinds, jobs } = &mut plan;
     let known = |&word: &&str| kinds.iter().any(|kind| kind.is_asked_by(word));
     let asked = |kind: usize| words.iter().any(|word| kinds[kind].is_asked_by(word));

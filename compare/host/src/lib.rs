@@ -1,5 +1,6 @@
-//! Compares the exports of the static library with the Rust's answers.
+//! Compares the exports of the static library with the Rust's answers, or with those of an earlier library.
 
+pub mod before;
 pub mod checker;
 pub mod claims;
 pub mod cut;
@@ -12,7 +13,9 @@ pub mod large;
 pub mod lender;
 pub mod reading;
 pub mod shapes;
+pub mod tab_sources;
 pub mod tables;
+pub mod tabs;
 
 /// Random numbers (splitmix64)
 #[derive(Default)]

@@ -9,7 +9,7 @@ use crate::{
     claims, cut,
     exports::{self, Reading},
     lender::Lender,
-    Random,
+    tabs, Random,
 };
 
 /// The tables of a reading, and the refusals of those that are too short, which the Rust does not have
@@ -43,7 +43,7 @@ fn put_entries(table: &mut Vec<u32>, entries: &[Entry]) {
 
 impl Wanted {
     fn ask(&mut self, source: &[u8]) {
-        let (_, answer) = calls::read(source);
+        let (_, answer) = calls::read(&tabs::asked(source));
         self.tables.iter_mut().for_each(Vec::clear);
         self.refusal = answer.as_ref().err().map_or(0, |&rust| cut::refusal(rust, source));
         let Ok(reading) = answer else {
@@ -103,7 +103,10 @@ impl Wanted {
 impl Checker {
     /// Compares the reading of a source, and the reading of it as a define body
     pub fn reading(&mut self, source: &[u8]) {
-        self.tally.inputs += 1;
+        if self.earlier.is_some() {
+            return self.libraries(source);
+        }
+        self.tally.source(source);
         self.reader.wanted.ask(source);
         for rooms in self.reader.wanted.rooms(&mut self.random, source.len()) {
             self.read(source, rooms);
@@ -139,7 +142,7 @@ impl Checker {
     }
 
     fn body(&mut self, source: &[u8]) {
-        let (_, answer) = calls::body(source);
+        let (_, answer) = calls::body(&tabs::asked(source));
         let Self { tally, random, numbers, reader, .. } = self;
         let want = answer.as_ref().map_err(|&rust| cut::refusal(rust, source)).map(|entries| {
             put_entries(&mut reader.body, entries);

@@ -141,7 +141,7 @@ fn once(call: &str, shape: &str, bytes: usize) -> i32 {
         }
         "tokens" | "before" => {
             let mut table = vec![u32::MAX; 3 * calls::tokens(&source).unwrap().len()];
-            let list = if call == "tokens" { exports::tokens } else { exports::before_tokens };
+            let list = if call == "tokens" { exports::tokens } else { exports::BEFORE.expect("BEFORE").tokens };
             assert_eq!(list(&source, &mut table).refusal, 0);
         }
         _ => {
@@ -251,9 +251,13 @@ fn time_calls(bars: &mut Bars) {
     let mut exact = vec![u32::MAX; 3 * count];
     let mut earlier = exact.clone();
     let mut ample = vec![u32::MAX; 3 * source.len()];
+    let before_tokens = exports::BEFORE.map(|library| library.tokens);
     let [ours, before, ours_ample, lexer, listing] = best([
         &mut || assert_eq!(exports::tokens(&source, black_box(&mut exact)).refusal, 0),
-        &mut || assert_eq!(exports::before_tokens(&source, black_box(&mut earlier)).refusal, 0),
+        &mut || {
+            let answer = before_tokens.map(|tokens| tokens(&source, black_box(&mut earlier)));
+            assert_eq!(answer.map_or(0, |answer| answer.refusal), 0);
+        },
         &mut || assert_eq!(exports::tokens(&source, black_box(&mut ample)).refusal, 0),
         &mut || calls::lex_only(black_box(text)),
         &mut || drop(black_box(calls::tokens(&source))),
@@ -264,7 +268,7 @@ fn time_calls(bars: &mut Bars) {
     row("Rust, its lexer alone: no table, no UTF-8 check", lexer);
     row("Rust, tokens collected, UTF-8 checked", listing);
     ratio("library / Rust", ours, lexer);
-    if exports::HAS_BEFORE {
+    if before_tokens.is_some() {
         row("an earlier library, table just long enough", before);
         let kept = times(ours, before);
         let met = bars.hold(&format!("shader_tokens: {kept:.2} times the earlier library"), kept >= TOKENS_BAR);

@@ -1,11 +1,11 @@
 //! Compares the static library with the Rust on many inputs, and prints figures.
 //!
-//!     host [quick] [calls | reading | KIND ..]
-//!     host files FILE ..
+//!     host [before] [quick] [calls | reading | KIND ..]
+//!     host [before] files FILE ..
 //!
 //! Without a word everything is compared; `calls` are the tokens, the line table, unescaping, lookup and
-//! pasting, and `reading` is the reading of a source and of a define body. `host kinds` prints the words of the
-//! kinds of inputs.
+//! pasting, and `reading` is the reading of a source and of a define body. With `before` an earlier library is compared
+//! with in place of the Rust, and each source goes through all calls. `host kinds` prints the words of the kinds of inputs.
 
 use std::{
     collections::VecDeque,
@@ -17,6 +17,7 @@ use std::{
 use host::{
     checker::{Checker, Tally, CALLS},
     cut,
+    exports::{Library, BEFORE},
     jobs::{self, plan, Plan, Work},
 };
 
@@ -40,14 +41,18 @@ struct Kind {
 fn main() {
     let words: Vec<String> = std::env::args().skip(1).collect();
     let words: Vec<&str> = words.iter().map(String::as_str).collect();
-    let total = match words[..] {
-        ["files", ref files @ ..] => compare_files(files),
+    let (earlier, words) = match words[..] {
+        ["before", ref words @ ..] => (Some(BEFORE.unwrap_or_else(no_library)), words),
+        ref words => (None, words),
+    };
+    let total = match words {
+        ["files", files @ ..] => compare_files(files, earlier),
         ["kinds"] => {
-            plan(true, &[]).unwrap().kinds.iter().for_each(|kind| println!("{:18} {}", kind.word, kind.name));
+            plan(true, &[]).unwrap().kinds.iter().for_each(|kind| println!("{:22} {}", kind.word, kind.name));
             return;
         }
-        ["quick", ref words @ ..] => run(plan(true, words).unwrap_or_else(usage)),
-        ref words => run(plan(false, words).unwrap_or_else(usage)),
+        ["quick", words @ ..] => run(plan(true, words).unwrap_or_else(usage), earlier),
+        words => run(plan(false, words).unwrap_or_else(usage), earlier),
     };
     if total.inputs == 0 {
         eprintln!("nothing was compared");
@@ -57,13 +62,18 @@ fn main() {
 }
 
 fn usage() -> Plan {
-    eprintln!("host [quick] [calls | reading | KIND ..], host files FILE .., host kinds");
+    eprintln!("host [before] [quick] [calls | reading | KIND ..], host [before] files FILE .., host kinds");
     exit(2);
 }
 
-fn compare_files(files: &[&str]) -> Tally {
+fn no_library() -> Library {
+    eprintln!("no earlier library was named by BEFORE");
+    exit(2);
+}
+
+fn compare_files(files: &[&str], earlier: Option<Library>) -> Tally {
     cut::hold();
-    let (mut checker, mut total) = (Checker::default(), Tally::default());
+    let (mut checker, mut total) = (Checker::beside(earlier), Tally::default());
     for (place, file) in files.iter().enumerate() {
         let source = std::fs::read(file).unwrap_or_else(|e| panic!("{file}: {e}"));
         checker.begin(place as u64);
@@ -77,7 +87,7 @@ fn compare_files(files: &[&str]) -> Tally {
 
 /// Runs the jobs on two threads. Large sources are the first thread's work, and the other takes part in it only
 /// when nothing else is left.
-fn run(plan: Plan) -> Tally {
+fn run(plan: Plan, earlier: Option<Library>) -> Tally {
     cut::hold();
     let start = Instant::now();
     let kind = |about| Kind { about, tally: Tally::default(), work: Duration::ZERO, open: 0 };
@@ -89,7 +99,10 @@ fn run(plan: Plan) -> Tally {
     std::thread::scope(|scope| {
         for large in [true, false] {
             let state = &state;
-            std::thread::Builder::new().stack_size(STACK).spawn_scoped(scope, move || work(state, large)).unwrap();
+            std::thread::Builder::new()
+                .stack_size(STACK)
+                .spawn_scoped(scope, move || work(state, large, earlier))
+                .unwrap();
         }
     });
 
@@ -99,12 +112,16 @@ fn run(plan: Plan) -> Tally {
     println!("{}", figures("all", &total, start.elapsed()));
     let calls: Vec<String> = CALLS.iter().zip(total.calls).map(|(call, n)| format!("{call} {n}")).collect();
     println!("calls compared: {}", calls.join(", "));
+    match earlier {
+        Some(_) => println!("sources left out: {}", total.left_out),
+        None => println!("sources with vertical tabs, of which the Rust was asked with tabs: {}", total.tabs),
+    }
     println!("{}", if total.differences == 0 { "no difference" } else { "DIFFERENCES" });
     total
 }
 
-fn work(state: &Mutex<State>, large: bool) {
-    let mut checker = Checker::default();
+fn work(state: &Mutex<State>, large: bool, earlier: Option<Library>) {
+    let mut checker = Checker::beside(earlier);
     loop {
         let next = {
             let State { waiting, kinds } = &mut *state.lock().unwrap();
