@@ -30,9 +30,9 @@ extern "C" {
 #endif
 
 /* The version of this header and of the library that it was delivered with. */
-#define SHADER_READER_VERSION "0.2.0"
+#define SHADER_READER_VERSION "0.3.0"
 #define SHADER_READER_VERSION_MAJOR 0
-#define SHADER_READER_VERSION_MINOR 2
+#define SHADER_READER_VERSION_MINOR 3
 #define SHADER_READER_VERSION_PATCH 0
 
 /* The longest source, in bytes. */
