@@ -33,11 +33,13 @@ header_alone() {
     done
 }
 
-# hosts/c/errors.cpp says what is stored, and nothing of a sample without errors.
+# hosts/c/errors.cpp says what is stored, and nothing of samples without errors.
 errors_of_samples() {
     $1 -std=c++11 -O2 $strict hosts/c/errors.cpp "$library" -o "$work/errors" || return 1
     "$work/errors" examples/errors.frag | diff hosts/c/tests/errors.txt - || return 1
-    [ -z "$("$work/errors" examples/layer_mask.frag)" ] && "$work/errors" examples/three_lines.frag
+    for sample in layer_mask three_lines old_editor; do
+        said=$("$work/errors" examples/$sample.frag) && [ -z "$said" ] || { echo "$sample: $said"; return 1; }
+    done
 }
 
 # What it says of a source with one error, behind its name: error_of BYTES WORDS
