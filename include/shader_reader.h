@@ -30,9 +30,9 @@ extern "C" {
 #endif
 
 /* The version of this header and of the library that it was delivered with. */
-#define SHADER_READER_VERSION "0.2.0"
+#define SHADER_READER_VERSION "0.3.0"
 #define SHADER_READER_VERSION_MAJOR 0
-#define SHADER_READER_VERSION_MINOR 2
+#define SHADER_READER_VERSION_MINOR 3
 #define SHADER_READER_VERSION_PATCH 0
 
 /* The longest source, in bytes. */
@@ -95,7 +95,7 @@ enum shader_kind {
     SHADER_KIND_QUOTE_STRING = 29,       /* "string" */
     SHADER_KIND_ANGLE_STRING = 30,       /* <string>, behind include alone */
     SHADER_KIND_BACKSLASH = 31,          /* a backslash that continues no line */
-    SHADER_KIND_WS = 32,                 /* blanks; in a tree a continuation too */
+    SHADER_KIND_WS = 32,                 /* tabs, vertical tabs, form feeds, spaces; in a tree a continuation too */
     SHADER_KIND_NEWLINE = 33,            /* LF, CR, or both together in either order */
     SHADER_KIND_COMMENT = 34,            /* comment of either form */
     SHADER_KIND_LINECONT = 35,           /* continuation, in a token listing alone */

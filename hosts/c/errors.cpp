@@ -38,10 +38,22 @@ static Reading read(const std::vector<std::uint8_t> &src) {
     }
 }
 
+// Some bytes of a source on one line. Control bytes, which a string may hold, are shown by their numbers.
+static std::string shown(const std::vector<std::uint8_t> &src, std::size_t start, std::size_t end) {
+    static const char digits[] = "0123456789abcdef";
+    std::string text;
+    for (std::size_t i = start; i < end; i++) {
+        std::uint8_t byte = src[i];
+        if (byte >= 32 && byte != 127) text += static_cast<char>(byte);
+        else text += std::string("\\x") + digits[byte >> 4] + digits[byte & 15];
+    }
+    return text;
+}
+
 // What an error says: its sort, the directive's name, the kinds that were expected.
 static std::string sentence(const shader_error &error, const std::vector<std::uint8_t> &src) {
     std::string text = shader_sort_text(error.sort);
-    if (error.name_end > 0) text += " #" + std::string(src.begin() + error.name_start, src.begin() + error.name_end);
+    if (error.name_end > 0) text += " #" + shown(src, error.name_start, error.name_end);
     if (error.actual) text += std::string(" ") + shader_kind_name(error.actual);
     if (error.expected[0]) text += std::string(", expected ") + shader_kind_name(error.expected[0]);
     if (error.expected[1]) text += std::string(" or ") + shader_kind_name(error.expected[1]);

@@ -3,7 +3,7 @@ strict="-Wall -Wextra -Wpedantic -Werror -Iinclude"
 sanitizers="address and undefined-behaviour sanitizers"
 cut="the file ends inside a character: the upload was cut"
 sanitize="-g -fsanitize=address,undefined -fno-sanitize-recover=all"
-tests="calls null search inlines threads utf8"
+tests="calls null search inlines threads utf8 blanks"
 runner=
 
 # Compiles a test and runs it: test_with COMPILER TEST [FLAGS..]. `inlines` is told the samples, for which the guess must
@@ -33,22 +33,32 @@ header_alone() {
     done
 }
 
-# hosts/c/errors.cpp says what is stored, and nothing of a sample without errors.
+# hosts/c/errors.cpp says what is stored, and nothing of samples without errors.
 errors_of_samples() {
     $1 -std=c++11 -O2 $strict hosts/c/errors.cpp "$library" -o "$work/errors" || return 1
     "$work/errors" examples/errors.frag | diff hosts/c/tests/errors.txt - || return 1
-    [ -z "$("$work/errors" examples/layer_mask.frag)" ] && "$work/errors" examples/three_lines.frag
+    for sample in layer_mask three_lines old_editor; do
+        said=$("$work/errors" examples/$sample.frag) && [ -z "$said" ] || { echo "$sample: $said"; return 1; }
+    done
 }
 
-# Of a source that is refused it says why, and where the source stops being UTF-8: error_of BYTES WORDS
+# What it says of a source with one error, behind its name: error_of BYTES WORDS
 error_of() {
     printf "$1" >"$work/source"
     said=$("$work/errors" "$work/source")
-    [ $? -eq 1 ] && [ "$said" = "$work/source: refused: $2" ] || { echo "$said"; return 1; }
+    [ $? -eq 1 ] && [ "$said" = "$work/source:$2" ] || { echo "$said"; return 1; }
 }
+
+# Of a source that is refused it says why, and where the source stops being UTF-8.
 errors_of_refused() {
-    error_of 'a\nb\351c' 'not UTF-8: byte 0xE9 at offset 3' || return 1
-    error_of 'a\nb\344\270' "$cut, the character begins at offset 3"
+    error_of 'a\nb\351c' ' refused: not UTF-8: byte 0xE9 at offset 3' || return 1
+    error_of 'a\nb\344\270' " refused: $cut, the character begins at offset 3"
+}
+
+# Vertical tabs are blanks around # and a part of strings, whose control bytes are shown by their numbers.
+errors_of_controls() {
+    error_of '\013#\013foo\013bar\n' '1:4: unknown preprocessor directive #foo' || return 1
+    error_of '#"\013\033"\n' '1:2: unknown preprocessor directive #"\x0b\x1b"'
 }
 
 for c in gcc clang; do
@@ -65,6 +75,7 @@ for c in g++ clang++; do
     can "$c, $sanitizers" $c $sanitize && suite "$c, $sanitizers" $c plus $sanitize
     try "$c: errors of the samples" errors_of_samples $c
     try "$c: errors of refused sources" errors_of_refused
+    try "$c: errors of sources with control bytes" errors_of_controls
 done
 can "gcc -static" gcc -static && suite "gcc -static" gcc "$tests stack" -O2 -static
 if needs musl-gcc "C with musl"; then
@@ -73,7 +84,7 @@ if needs musl-gcc "C with musl"; then
 fi
 if needs valgrind "tests under valgrind"; then
     runner="valgrind --quiet --error-exitcode=9"
-    suite "valgrind" gcc "calls null search inlines" -O1 -g
+    suite "valgrind" gcc "calls null search inlines blanks" -O1 -g
     runner="valgrind --quiet --tool=helgrind --error-exitcode=9"
     suite "valgrind, races" gcc threads -O1 -g
     runner=

@@ -42,6 +42,13 @@ expect 0 "$read" tokens "$work/source"
 says '37,0,2,<<
 10,2,3,<
 35,3,5,\\x0a'
+printf '\t\013# \013\\\013' >"$work/source"
+expect 0 "$read" tokens "$work/source"
+says '32,0,2,\x09\x0b
+28,2,3,#
+32,3,5, \x0b
+31,5,6,\
+32,6,7,\x0b'
 
 # Long sources, and one that is too long.
 yes '#a' | head -n 500000 >"$work/source"

@@ -20,6 +20,8 @@ for sample in examples/*.frag; do
     "$work/read" listing $sample | diff - "$work/out"
 done
 status 0 --check examples/layer_mask.frag
+status 0 --check examples/old_editor.frag
+[ ! -s "$work/err" ] || { cat "$work/err"; exit 1; }
 status 1 --check examples/errors.frag
 status 2 --check "$work/nothing"
 status 2 --no-such-word

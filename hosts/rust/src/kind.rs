@@ -99,7 +99,7 @@ kinds! {
     ANGLE_STRING = 30,
     /// `\`
     BACKSLASH = 31,
-    /// Blanks
+    /// Blanks: tabs, vertical tabs, form feeds, spaces; in a tree a continuation too
     WS = 32,
     /// Newline
     NEWLINE = 33,

@@ -1,7 +1,7 @@
 //! The cursor, the iterators and the lines, on many sources.
 use shader_reader::{lookup, read, Entry, Node, SyntaxKind, View};
 
-const PIECES: [&str; 28] = [
+const PIECES: [&str; 29] = [
     "#",
     "define ",
     "undef ",
@@ -20,6 +20,7 @@ const PIECES: [&str; 28] = [
     ")",
     "##",
     " ",
+    "\u{b}",
     "/* \n */",
     "\\\n",
     "\n",

@@ -98,6 +98,29 @@ fn a_version_without_its_number() {
 }
 
 #[test]
+fn vertical_tabs() {
+    let tree = [
+        "ROOT 0-9",
+        "  PP_IF 0-9",
+        "    WS' 0-1",
+        "    HASH' 1-2",
+        "    WS' 2-3",
+        "    IDENT_KW' 3-5",
+        "    WS' 5-6",
+        "    PP_IF_EXPR 6-7",
+        "      IDENT_KW' 6-7",
+        "    WS' 7-8",
+        "    NEWLINE' 8-9",
+    ];
+    reads("\u{b}#\u{b}if\u{b}a\u{b}\n", &tree, &[], &[0, 9]);
+    let empty = ["ROOT 0-5", "  PP_EMPTY 0-5", "    WS' 0-2", "    HASH' 2-3", "    WS' 3-4", "    NEWLINE' 4-5"];
+    reads(" \u{b}#\u{b}\n", &empty, &[], &[0, 5]);
+    reads("\\\u{b}\n", &["ROOT 0-3", "  BACKSLASH' 0-1", "  WS' 1-2", "  NEWLINE' 2-3"], &[], &[0, 3]);
+    let inside = ["ROOT 0-8", "  QUOTE_STRING' 0-3", "  WS' 3-4", "  COMMENT' 4-7", "  NEWLINE' 7-8"];
+    reads("\"\u{b}\"\u{b}//\u{b}\n", &inside, &[], &[0, 8]);
+}
+
+#[test]
 fn an_unknown_directive() {
     let tree = ["ROOT 0-2", "  ERROR 0-2", "    HASH' 0-1", "    ERROR 1-2", "      IDENT_KW' 1-2"];
     reads("#a", &tree, &[[1, 1, 2, 0, 1, 0, 0, 0, 1, 2]], &[0]);

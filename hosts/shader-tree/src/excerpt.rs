@@ -152,6 +152,21 @@ mod tests {
     }
 
     #[test]
+    fn vertical_tabs_are_escaped_and_no_tabs() {
+        assert_eq!(drawn(b"\x0b#foo\x0b\tb", 0, 2..5), "\\x0b#foo\\x0b    b\n     ^^^");
+        assert_eq!(drawn(b"#else a\x0bb \x0b\n", 0, 6..11), "#else a\\x0bb \\x0b\n      ^^^^^^^^^^^");
+        assert_eq!(drawn(b"a\n\x0b#\x0b\n", 2, 5..5), "\\x0b#\\x0b\n         ^");
+    }
+
+    #[test]
+    fn long_lines_of_vertical_tabs_are_cut_around_the_mark() {
+        let text = [&[0x0b; 500][..], b"MARK", &[0x0b; 500]].concat();
+        let shown = excerpt(&text, 0, 500..504);
+        assert_eq!(shown.text, format!("...{}MARK{}...", "\\x0b".repeat(10), "\\x0b".repeat(14)));
+        assert_eq!((shown.column, shown.width), (43, 4));
+    }
+
+    #[test]
     fn newlines_of_all_sorts_end_the_line() {
         for newline in ["\n", "\r\n", "\n\r", "\r"] {
             let text = format!("#else a{newline}b");

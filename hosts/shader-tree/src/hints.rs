@@ -246,6 +246,7 @@ mod tests {
     fn notes_on_error_leaves() {
         let sentence = |bytes: &[u8]| note(bytes).unwrap().sentence;
         assert_eq!(note(b"void main() {}\n"), None);
+        assert_eq!(note(b"\tvoid\x0bmain()\x0c{}\x0b\n\x0b#if 1\n"), None);
         assert_eq!(sentence(b"a @ b"), "no token begins with this character: it is an ERROR leaf");
         assert!(sentence(b"@@").ends_with("(there is 1 more such leaf)"));
         assert!(sentence(b"@@@").ends_with("(there are 2 more such leaves)"));
@@ -264,7 +265,9 @@ mod tests {
     #[test]
     fn byte_order_marks() {
         let sentence = |text: &str| note(text.as_bytes()).unwrap().sentence;
-        assert!(sentence("\u{feff} /**/ #version 450\n").ends_with("makes text of the directive behind it"));
+        for behind in [" /**/ #version 450\n", "\u{b}#version 450\n"] {
+            assert!(sentence(&format!("\u{feff}{behind}")).ends_with("makes text of the directive behind it"));
+        }
         assert_eq!(sentence("\u{feff}\n#version 450\n"), "a byte order mark is an ERROR leaf");
         assert!(sentence("a\u{feff}").starts_with("no token begins"));
     }

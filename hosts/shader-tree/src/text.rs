@@ -193,7 +193,7 @@ mod tests {
 
     #[test]
     fn quotes_and_controls_are_escaped() {
-        assert_eq!(quoted(b"a\"\\\t\r\n\0\x1b\x7f"), r#""a\"\\\t\r\n\x00\x1b\x7f""#);
+        assert_eq!(quoted(b"a\"\\\t\x0b\r\n\0\x1b\x7f"), r#""a\"\\\t\x0b\r\n\x00\x1b\x7f""#);
         assert_eq!(quoted("é\u{202e}\u{feff}\u{9b}".as_bytes()), r#""é\u{202e}\u{feff}\u{9b}""#);
         assert_eq!(quoted(b"\xff"), r#""\xff""#);
     }

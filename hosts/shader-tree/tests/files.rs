@@ -50,7 +50,7 @@ fn help_and_version() {
     assert_eq!(help.code, Some(0));
     assert!(help.text().contains("columns count bytes"));
     assert!(help.text().lines().all(|line| line.len() <= 80));
-    assert_eq!(run(&["--version"]).text(), "shader-tree 0.2.0\n");
+    assert_eq!(run(&["--version"]).text(), "shader-tree 0.3.0\n");
 }
 
 #[test]
@@ -197,7 +197,7 @@ fn empty_and_odd_sources() {
     assert_eq!(fed(&["--tree"], b"#").text(), "ROOT@0..1\n  ERROR@0..1\n    HASH@0..1 \"#\"\n");
     let ran = fed(&["--tokens"], b"\0\x0b\x1b\x7f\\\n\xc2\x80");
     let kinds: Vec<_> = ran.text().lines().collect();
-    assert_eq!(kinds[..2], ["ERROR@0..1 \"\\x00\"", "ERROR@1..2 \"\\x0b\""]);
+    assert_eq!(kinds[..2], ["ERROR@0..1 \"\\x00\"", "WS@1..2 \"\\x0b\""]);
     assert_eq!(kinds[4..], ["LINECONT@4..6 \"\\\\\\n\"", "ERROR@6..8 \"\\u{80}\""]);
     assert_eq!(ran.code, Some(0));
 }

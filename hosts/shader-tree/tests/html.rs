@@ -48,6 +48,7 @@ fn the_source_is_whole() {
     whole("#include <a\nb>\n#()# x\n#define a ## b ## c\n");
     whole("#else /* a\n\n\nb */ \"\n\n\" c\n");
     whole("#undef\nfoo\n#extension\n\n#define f(\n#else /* a\nb */ c\n#(");
+    whole("\u{b}#\u{b}if\u{b}1\n\u{b}\ta\u{b}=\u{b}\"\u{b}\"; /*\u{b}\n\u{b}*/\u{b}#foo\u{b}\n");
     whole("\u{feff}#a\u{202e}\u{0}\u{1b}[31m\u{9b}\u{fffe}\u{200b}中é\n");
 }
 
@@ -102,6 +103,18 @@ fn errors_stand_under_their_bytes() {
         page.contains("<span class=\"bad wrong\" title=\"ERROR 15..18\"><span class=\"wide\">中</span></span>"),
         "{page}"
     );
+}
+
+#[test]
+fn vertical_tabs_are_blanks_that_are_seen() {
+    let page = page_of(b"\x0b \x0b#\x0bfoo\n#else\x0b\x0b1\n");
+    assert!(!page.contains('\x0b'));
+    let hidden = "<span class=\"hidden\">\\x0b</span>";
+    assert!(page.contains(&format!("<span class=\"blank\" title=\"WS 0..3\">{hidden} {hidden}</span>")), "{page}");
+    assert!(page.contains("<i>0..3</i> <code class=\"blank\">&quot;\\x0b \\x0b&quot;</code>"), "{page}");
+    for (column, error) in [(14, "^^^ <b>error:</b> unknown"), (13, "^ <b>error:</b> &#39;#else&#39; : extra tokens")] {
+        assert!(page.contains(&format!("<span class=\"text\">{}{error}", " ".repeat(column))), "{page}");
+    }
 }
 
 #[test]

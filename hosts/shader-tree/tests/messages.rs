@@ -73,6 +73,29 @@ fn controls_are_escaped_in_lines_and_sentences() {
 }
 
 #[test]
+fn vertical_tabs_are_escaped_and_marks_stand_under_their_bytes() {
+    assert_eq!(
+        said("\x0b\t#\x0bfoo\x0bbar\n #else\x0ba\x0bb \x0b\n"),
+        "<stdin>:1:5: error: unknown preprocessor directive `#foo`\n\
+        \u{20}   1 | \\x0b    #\\x0bfoo\\x0bbar\n\
+        \u{20}     |              ^^^\n\
+        <stdin>:2:8: error: '#else' : extra tokens in preprocessor directive\n\
+        \u{20}   2 |  #else\\x0ba\\x0bb \\x0b\n\
+        \u{20}     |           ^^^^^^^^^^^\n"
+    );
+    assert_eq!(
+        said("#\"\x0b\"\n").lines().next(),
+        Some("<stdin>:1:2: error: unknown preprocessor directive `#\"\\x0b\"`")
+    );
+}
+
+#[test]
+fn vertical_tabs_are_not_noted() {
+    let ran = fed(&["--check"], b"\x0bvoid\x0bmain()\x0b{}\n\x0b#version\x0b450\n\\\x0b");
+    assert_eq!((ran.err.as_str(), ran.code), ("", Some(0)));
+}
+
+#[test]
 fn a_name_may_go_on_over_lines() {
     assert!(
         said("#fo\\\no\n").starts_with("<stdin>:1:2: error: unknown preprocessor directive `#foo`\n    1 | #fo\\\n")

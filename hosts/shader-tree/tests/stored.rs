@@ -53,6 +53,12 @@ fn directives() {
     all_of("directives", 0);
 }
 
+/// Vertical tabs around words and before #.
+#[test]
+fn old_editor() {
+    all_of("old_editor", 0);
+}
+
 #[test]
 fn errors() {
     all_of("errors", 1);
