@@ -9,9 +9,12 @@ use Rattle.definition.specs.Tree.{Leaf, Forest, nil, leaf, node}
 use Rattle.definition.specs.Parser.{Got}
 use Rattle.definition.specs.Calls.{Filled}
 
+abbrev pub TAB : ℕ
+TAB = byte "\t"
+
 -- A byte, and a row of bytes.
 abbrev pub as-tab : ℕ → ℕ
-as-tab b = if eqb b VT then byte "\t" else b
+as-tab b = if eqb b VT then TAB else b
 
 abbrev pub tabbed : List ℕ → List ℕ
 tabbed bs = map as-tab bs

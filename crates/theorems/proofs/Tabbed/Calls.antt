@@ -18,7 +18,7 @@ use Rattle.definition.specs.Glue.{tokens, token-numbers}
 use Rattle.definition.specs.Tree.{Leaf, long, Forest, nil, leaf, node, leaves, size, entries, leaf-entry, node-entry, entry-numbers, body-kind, concat-ops, body-concats}
 use Rattle.definition.specs.Syntax.{parse, parse-define-body}
 use Rattle.definition.specs.Calls.{Check, Refusal, longest-source, refusal, source-checks, too-many-concats, short-table, counted, padded, filled, full-reading, entries-of, errors-of, outcome, reading, Filled, fills, reading-body, listing-tokens, building-lines, unescaping}
-use Rattle.theorems.specs.Tabbed.{as-tab, tabbed, tabbed-leaf, tabbed-row, tabbed-forest, tabbed-filled}
+use Rattle.theorems.specs.Tabbed.{TAB, as-tab, tabbed, tabbed-leaf, tabbed-row, tabbed-forest, tabbed-filled}
 use Rattle.theorems.proofs.Tabbed.Tokens.{by-tab, tokens-tabbed, numbers-tabbed, lines-tabbed, unescaped-tabbed}
 use Rattle.theorems.proofs.Tabbed.Readers.{if-as}
 use Rattle.theorems.proofs.Tabbed.Items.{parse-tabbed, define-body-tabbed}
@@ -41,10 +41,10 @@ follow-high (f ∷ fs) b ss h e = let p = and-eq-true-iff (high (f .later)) (all
     go true w h ih = rw (Option·some-injective (f .later) ss (rw (w, follow) at e)) at h
     go false w h ih = ih (rw (w, follow) at e)
 
-within-tab : (s : Span) → leb 128 (s .low) ≡ true → within s (byte "\t") ≡ within s VT
+within-tab : (s : Span) → leb 128 (s .low) ≡ true → within s TAB ≡ within s VT
 within-tab s h =
     let l : 128 ≤ s .low = leb-true 128 (s .low) h in
-    rw (lt-leb (s .low) (byte "\t") (omega arith), lt-leb (s .low) VT (omega arith)) refl
+    rw (lt-leb (s .low) TAB (omega arith), lt-leb (s .low) VT (omega arith)) refl
 
 -- The first bytes are told apart by no form, and every later span is high.
 first-tab : (b : ℕ) → follow char-forms (as-tab b) ≡ follow char-forms b

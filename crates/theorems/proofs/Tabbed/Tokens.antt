@@ -17,21 +17,21 @@ use Rattle.definition.specs.Pre.{State, done, slash, ident, single-comment, mul
 use Rattle.definition.specs.Glue.{Token, tokens, flat, defined, pre-kind, token-numbers}
 use Rattle.definition.specs.Tree.{Leaf, placed}
 use Rattle.theorems.specs.Step.{glue-begin, glue-more}
-use Rattle.theorems.specs.Tabbed.{as-tab, tabbed, tabbed-token, tabbed-leaf}
+use Rattle.theorems.specs.Tabbed.{TAB, as-tab, tabbed, tabbed-token, tabbed-leaf}
 use Rattle.theorems.proofs.Lexing.Chars.{Goes-on, tail, cr-lf, lf-cr, goes-on}
 use Rattle.theorems.proofs.Lexing.Unescapes.{backslash, by-test}
 use Rattle.theorems.proofs.Tabbed.Runs.{onto, onto-same, run-as, joined-as, grouped-as}
 
 -- What does not tell the two apart is the same of a byte and of that byte as a tab.
-pub by-tab : {A : Type 0} (p : ℕ → A) → p (byte "\t") ≡ p VT → (c : ℕ) → p (as-tab c) ≡ p c
+pub by-tab : {A : Type 0} (p : ℕ → A) → p TAB ≡ p VT → (c : ℕ) → p (as-tab c) ≡ p c
 by-tab p e c = go (eqb c VT) refl
   where
-    go : (b : Bool) → eqb c VT ≡ b → p (if b then byte "\t" else c) ≡ p c
+    go : (b : Bool) → eqb c VT ≡ b → p (if b then TAB else c) ≡ p c
     go true h = rw (eqb-true c VT h) e
     go false h = refl
 
 -- Characters: neither goes on with one, and none goes on with them.
-char-tab : (c : ℕ) → char-more c (byte "\t") ≡ char-more c VT
+char-tab : (c : ℕ) → char-more c TAB ≡ char-more c VT
 unfolding char-more
 char-tab c = rw (and-false (among 192 255 c), and-false (eqb c CR), and-false (eqb c LF))
 
@@ -39,7 +39,7 @@ char-as : (c b : ℕ) → char-more (as-tab c) (as-tab b) ≡ onto as-tab (char-
 unfolding char-more
 char-as c b = by-tab (char-more (as-tab c)) (char-tab (as-tab c)) b ∙ go (eqb c VT) refl (char-more c b) refl
   where
-    go : (t : Bool) → eqb c VT ≡ t → (o : Option ℕ) → char-more c b ≡ o → char-more (if t then byte "\t" else c) b ≡ onto as-tab o
+    go : (t : Bool) → eqb c VT ≡ t → (o : Option ℕ) → char-more c b ≡ o → char-more (if t then TAB else c) b ≡ onto as-tab o
     go true h o e = ap (onto as-tab) (rw (eqb-true c VT h) at e)
     go false h none e = e
     go false h (some d) e = e ∙ ap some (kept (goes-on c b d e))
@@ -57,7 +57,7 @@ unfolding chars
 chars-tabbed bs = grouped-as as-tab as-tab _ _ _ _ (λ q b. refl) char-as 0 bs
 
 -- The steps of a pre-token.
-more-tab : (q : State) → more q (byte "\t") ≡ more q VT
+more-tab : (q : State) → more q TAB ≡ more q VT
 unfolding more
 more-tab (done k) = refl
 more-tab slash = refl
@@ -111,16 +111,16 @@ unescaped-as (c ∷ d ∷ cs) = go (backslash (c .kind) && newline (d .kind)) re
 -- Whether neither is a byte of the word.
 unfoldable pub apart : List ℕ → Bool
 apart [] = true
-apart (y ∷ ys) = not (one-of (VT ∷ byte "\t" ∷ []) y) && apart ys
+apart (y ∷ ys) = not (one-of (VT ∷ TAB ∷ []) y) && apart ys
 
-alike : (y : ℕ) → not (one-of (VT ∷ byte "\t" ∷ []) y) ≡ true → (eqb (byte "\t") y ≡ eqb VT y) × (eqb y (byte "\t") ≡ eqb y VT)
-alike y h = go (eqb y VT) (eqb y (byte "\t")) refl refl h
+alike : (y : ℕ) → not (one-of (VT ∷ TAB ∷ []) y) ≡ true → (eqb TAB y ≡ eqb VT y) × (eqb y TAB ≡ eqb y VT)
+alike y h = go (eqb y VT) (eqb y TAB) refl refl h
   where
-    go : (a b : Bool) → eqb y VT ≡ a → eqb y (byte "\t") ≡ b → not (a || (b || false)) ≡ true → (eqb (byte "\t") y ≡ eqb VT y) × (eqb y (byte "\t") ≡ eqb y VT)
+    go : (a b : Bool) → eqb y VT ≡ a → eqb y TAB ≡ b → not (a || (b || false)) ≡ true → (eqb TAB y ≡ eqb VT y) × (eqb y TAB ≡ eqb y VT)
     go true b e f z = absurd (false≢true z)
     go false true e f z = absurd (false≢true z)
     go false false e f z =
-        (ne-eqb (byte "\t") y (λ q. eqb-false y (byte "\t") f (sym q)) ∙ sym (ne-eqb VT y (λ q. eqb-false y VT e (sym q))), f ∙ sym e)
+        (ne-eqb TAB y (λ q. eqb-false y TAB f (sym q)) ∙ sym (ne-eqb VT y (λ q. eqb-false y VT e (sym q))), f ∙ sym e)
 
 -- The word on the right, and on the left.
 pub same-tabbed : (xs ys : List ℕ) → apart ys ≡ true → (same (tabbed xs) ys ≡ same xs ys) × (same ys (tabbed xs) ≡ same ys xs)
@@ -129,7 +129,7 @@ same-tabbed [] [] h = (refl, refl)
 same-tabbed [] (y ∷ ys) h = (refl, refl)
 same-tabbed (x ∷ xs) [] h = (refl, refl)
 same-tabbed (x ∷ xs) (y ∷ ys) h =
-    let p = and-eq-true-iff (not (one-of (VT ∷ byte "\t" ∷ []) y)) (apart ys) .0 h in
+    let p = and-eq-true-iff (not (one-of (VT ∷ TAB ∷ []) y)) (apart ys) .0 h in
     let a = alike y (p .0) in
     let ih = same-tabbed xs ys (p .1) in
     (ap₂ _&&_ (by-tab (λ x. eqb x y) (a .0) x) (ih .0), ap₂ _&&_ (by-tab (λ x. eqb y x) (a .1) x) (ih .1))
