@@ -26,13 +26,13 @@ parts() {
 
 # Names of code: `crate::module::name`, `crate::name`.
 names() {
-    for code in $(grep -oh '`[a-z_]*::[A-Za-z_:]*`' docs/*.md | tr -d '`' | sort -u); do
-        crate=${code%%::*} last=${code##*::} rest=${code#*::}
+    for name in $(grep -oh '`[a-z_]*::[A-Za-z_:]*`' docs/*.md | tr -d '`' | sort -u); do
+        crate=${name%%::*} last=${name##*::} rest=${name#*::}
         [ -d "crates/$crate/src" ] || continue
         [ ! -f "crates/$crate/src/$last.rt" ] || continue
         from=crates/$crate/src/${rest%%::*}.rt
         [ -f "$from" ] || from=crates/$crate/src/lib.rt
-        grep -qE "\\<(fn|struct|const|enum) $last\\>|^    $last [{]" "$from" || echo "$code is not in $from"
+        grep -qE "\\<(fn|struct|const|enum) $last\\>|^    $last [{]" "$from" || echo "$name is not in $from"
     done >"$work/broken"
     ! grep . "$work/broken"
 }
