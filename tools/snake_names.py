@@ -2,7 +2,7 @@
 """Spells the repository's own definitions and lemmas in snake case, and its types in camel case; run once, at the top, after port.py.
 
 A name of specs/ or proofs/ that has a dash gets underscores; one that begins with a capital letter gets capital letters for its dashes.
-Names of the library, names that Rattle makes (the first name behind `c.`, `w.` or `tie.`), functions of src/, strings and comments stay; a
+Names of the library, names that Rattle makes (in a Proof.antt the first name behind `c.`, `w.` or `tie.`), functions of src/, strings and comments stay; a
 name in backticks in a comment is turned. Where a name would then meet an item of the same Rust file, the file imports it as `Module·name`.
 Names that fall together are told, and nothing is written.
 """
@@ -16,6 +16,7 @@ NAME = r'[^\s(){}\[\].;,@"«»|]+'
 MODIFIERS = r"(?:unfoldable |abbrev |pub |ruleset |data |record |mutual )*"
 HEAD = re.compile(rf"\s*{MODIFIERS}({NAME})\s*(?:\{{ℓ.*\}}\s*)?(?:\(.*\)\s*)?:\s")
 BINDERS = re.compile(rf"[({{;]\s*((?:{NAME}\s)+)\s*:\s")
+SEVERAL = re.compile(rf"\s*(?:pub )?((?:{NAME}\s+)+):\s")
 ALIAS = re.compile(rf" as ({NAME})")
 USE = re.compile(r"\s*(?:pub )?use (\S+?)\.?(\{.*\})?( as .*)?$")
 OWN = re.compile(r"Rattle\.(?!(?:std|core|io|libc|os|std_\w+)\b)")
@@ -58,7 +59,8 @@ def declared():
                 continue
             head = HEAD.match(line)
             found = [head[1]] if head else []
-            for group in BINDERS.findall(line):
+            several = SEVERAL.match(line)
+            for group in BINDERS.findall(line) + ([several[1]] if several else []):
                 found += group.split()
             names.update(set(found) - tied)
     return {n for n in names - library if DASHED.search(n)}
@@ -72,14 +74,14 @@ def turned(name):
     return name.replace("-", "_")
 
 
-def turn_code(code, table):
+def turn_code(code, table, made=MADE):
     """Turns the names in code, but for strings and the first name behind a head of Rattle's."""
     out, last = [], 0
     for m in re.finditer(r'"(?:[^"\\]|\\.)*"|' + NAME, code):
         word = m[0]
         if word in table:
             before = re.search(rf"({NAME})\.$", code[: m.start()])
-            if before and before[1] in MADE and not re.search(rf"\.{re.escape(before[1])}\.$", code[: m.start()]):
+            if before and before[1] in made and not re.search(rf"\.{re.escape(before[1])}\.$", code[: m.start()]):
                 continue
             out += [code[last : m.start()], table[word]]
             last = m.end()
@@ -90,11 +92,11 @@ def turn_ticks(comment, table):
     return re.sub(r"`[^`]*`", lambda m: turn_code(m[0].replace("`", " "), table).strip().join("``"), comment) if "`" in comment else comment
 
 
-def turn_text(text, mark, table):
+def turn_text(text, mark, table, made):
     out = []
     for line in text.split("\n"):
         code, comment = split_comment(line, mark)
-        out.append(turn_code(code, table) + turn_ticks(comment, table))
+        out.append(turn_code(code, table, made) + turn_ticks(comment, table))
     return "\n".join(out)
 
 
@@ -145,7 +147,7 @@ def main():
             with open(path, encoding="utf-8") as f:
                 text = f.read()
             new, own = aliased(text, table) if kind == "rt" else (text, table)
-            new = turn_text(new, mark, own)
+            new = turn_text(new, mark, own, MADE if path.endswith("/Proof.antt") else ())
             if new != text:
                 with open(path, "w", encoding="utf-8") as f:
                     f.write(new)

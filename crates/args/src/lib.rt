@@ -40,7 +40,7 @@ fn closes(kind: u8) -> bool
 }
 
 // The answer of an argument list, or of one place of it: what follows, and whether there was an error.
-#[derive(Drop)]
+#[derive(Clone, Copy)]
 pub struct Listed {
     pub state: ParserRun,
     pub bad: bool,

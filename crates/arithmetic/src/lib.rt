@@ -7,7 +7,7 @@ pub mod unary;
 
 // What an expression comes to: the refusal number, 0 if none, and the value, which counts only where nothing is refused.
 #[repr(C)]
-#[derive(Drop)]
+#[derive(Clone, Copy)]
 pub struct Value {
     pub refusal: u32,
     pub value: i32,

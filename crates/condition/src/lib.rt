@@ -17,7 +17,7 @@ use text::source;
 const MOST_OPEN: u32 = 64;
 
 // What was read: whether it is an expression, what it comes to, and the leaf behind it.
-#[derive(Drop)]
+#[derive(Clone, Copy)]
 pub struct Step {
     pub next: Seen,
     pub read: bool,

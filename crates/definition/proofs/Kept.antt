@@ -96,6 +96,7 @@ no_group : {R : List Leaf} → Closes zero (bare K.LPAREN ∷ bare K.RPAREN ∷ 
 no_group (closed e) = false≢true e
 no_group (opened e (opened f x)) = false≢true f
 no_group (opened e (passed f x)) = false≢true (sym f)
+no_group {R = R} (opened e (inner _ x)) = elim x [ ]
 no_group (passed e x) = false≢true (sym e)
 
 -- a NEWLINE in the rest of `line`,
@@ -110,6 +111,7 @@ no_rest empty = refl
 no_object : Args (bare K.LPAREN ∷ []) (bare K.LPAREN ∷ []) → ⊥
 unfolding peek
 no_object (object e) = false≢true (sym e)
+no_object (function _ x) = elim x [ ]
 
 -- a comma where an identifier may come.
 no_comma_first : {R : List Leaf} → Params true (bare K.COMMA ∷ bare K.RPAREN ∷ []) R → ⊥

@@ -2,8 +2,7 @@
 use Prim.Native.Nat.{◌^◌}
 use Prim.Native.String.{String}
 use mathlib.Core.Path.{◌≡◌, refl}
-use Rattle.definition.specs.Text.{ℕ, ◌-◌, Bool, true, ◌&&◌, List, [], ◌∷◌, ◌++◌, length, replicate, ascii, same, byte}
-use Rattle.definition.specs.Calls.{Refusal}
+use Rattle.definition.specs.Text.{ℕ, ◌-◌, Bool, true, ◌&&◌, List, [], ◌∷◌, ◌++◌, replicate, ascii, same, byte}
 use Rattle.definition.specs.Listed.{value_listed}
 
 pub record Case : Type 0 where

@@ -5,13 +5,13 @@ use Rattle.definition.specs.Newline.{letter, digit, newline, blank}
 
 -- Where a backslash stands.
 pub data Place : Type 0 where
-  alone in-ident in-comment : Place
+  alone in_ident in_comment : Place
   in_digits : Bool → Bool → Place
 
 -- What has been read of a token. Digits: whether an e was the last letter, and whether a dot was seen.
 pub data State : Type 0 where
   done : ℕ → State
-  slash ident single-comment multi-comment multi-comment-star whitespace quote-string angle-string : State
+  slash ident single_comment multi_comment multi_comment_star whitespace quote_string angle_string : State
   backslash : Place → State
   digits : Bool → Bool → State
 
@@ -20,15 +20,15 @@ unfoldable pub kind_of : State → ℕ
 kind_of (done k) = k
 kind_of slash = Kind.SLASH
 kind_of ident = Kind.IDENT_KW
-kind_of single-comment = Kind.COMMENT
-kind_of multi-comment = Kind.ERROR
-kind_of multi-comment-star = Kind.ERROR
+kind_of single_comment = Kind.COMMENT
+kind_of multi_comment = Kind.ERROR
+kind_of multi_comment_star = Kind.ERROR
 kind_of whitespace = Kind.WS
-kind_of quote-string = Kind.ERROR
-kind_of angle-string = Kind.ERROR
+kind_of quote_string = Kind.ERROR
+kind_of angle_string = Kind.ERROR
 kind_of (backslash alone) = Kind.BACKSLASH
-kind_of (backslash in-ident) = Kind.BACKSLASH
-kind_of (backslash in-comment) = Kind.COMMENT
+kind_of (backslash in_ident) = Kind.BACKSLASH
+kind_of (backslash in_comment) = Kind.COMMENT
 kind_of (backslash (in_digits e d)) = Kind.BACKSLASH
 kind_of (digits e d) = Kind.DIGITS
 
@@ -48,8 +48,8 @@ begin f c =
     if digit c then digits false false else
     if newline c then done Kind.NEWLINE else
     if blank c then whitespace else
-    if eqb c (byte "\"") then quote-string else
-    if f && eqb c (byte "<") then angle-string else
+    if eqb c (byte "\"") then quote_string else
+    if f && eqb c (byte "<") then angle_string else
     if eqb c (byte "\\") then backslash alone else
     if eqb c (byte "/") then slash else done (find c puncts Kind.PERIOD)
 
@@ -60,20 +60,20 @@ flag f c = f && not (newline c || eqb c (byte "\"") || eqb c (byte "<"))
 -- The state after one more character; none: the character begins the next token.
 unfoldable pub more : State → ℕ → Option State
 more (done k) c = none
-more slash c = if eqb c (byte "/") then some single-comment else if eqb c (byte "*") then some multi-comment else none
+more slash c = if eqb c (byte "/") then some single_comment else if eqb c (byte "*") then some multi_comment else none
 more ident c =
     if letter c || digit c || eqb c (byte "_") then some ident else
-    if eqb c (byte "\\") then some (backslash in-ident) else none
-more single-comment c =
-    if newline c then none else if eqb c (byte "\\") then some (backslash in-comment) else some single-comment
-more multi-comment c = if eqb c (byte "*") then some multi-comment-star else some multi-comment
-more multi-comment-star c = if eqb c (byte "/") then some (done Kind.COMMENT) else some multi-comment
+    if eqb c (byte "\\") then some (backslash in_ident) else none
+more single_comment c =
+    if newline c then none else if eqb c (byte "\\") then some (backslash in_comment) else some single_comment
+more multi_comment c = if eqb c (byte "*") then some multi_comment_star else some multi_comment
+more multi_comment_star c = if eqb c (byte "/") then some (done Kind.COMMENT) else some multi_comment
 more whitespace c = if blank c then some whitespace else none
-more quote-string c = if eqb c (byte "\"") then some (done Kind.QUOTE_STRING) else some quote-string
-more angle-string c = if eqb c (byte ">") then some (done Kind.ANGLE_STRING) else some angle-string
+more quote_string c = if eqb c (byte "\"") then some (done Kind.QUOTE_STRING) else some quote_string
+more angle_string c = if eqb c (byte ">") then some (done Kind.ANGLE_STRING) else some angle_string
 more (backslash alone) c = if newline c then some (done Kind.LINECONT) else none
-more (backslash in-ident) c = if newline c then some ident else none
-more (backslash in-comment) c = some single-comment
+more (backslash in_ident) c = if newline c then some ident else none
+more (backslash in_comment) c = some single_comment
 more (backslash (in_digits e d)) c = if newline c then some (digits e d) else none
 more (digits e d) c =
     if digit c then some (digits e d) else

@@ -20,7 +20,7 @@ const COLUMN: usize = 4;
 const UNLOCATED: u32 = 0;
 
 // The sorts of errors, by their numbers; Rust's third is never raised.
-#[derive(Drop)]
+#[derive(Clone, Copy)]
 pub struct ErrorKind {
     pub number: u32,
 }
@@ -36,7 +36,7 @@ impl ErrorKind {
 }
 
 // An error as it is met: its sort, its range, the actual kind, up to two expected kinds, and the range of a name; 0 where there is none.
-#[derive(Drop)]
+#[derive(Clone, Copy)]
 pub struct Fault {
     pub sort: u32,
     pub start: u32,

@@ -1,4 +1,6 @@
 // The glue lexer: operators of several characters (`glue.rs`).
+#![tactic(auto)]
+
 ghost use Rattle.std.specs.Prelude.{◌≡◌, false, ◌&&◌, eqb};
 ghost use Rattle.definition.specs.Text.{byte};
 ghost use Rattle.definition.specs.SyntaxKind.{Kind as SyntaxKind};
@@ -12,13 +14,13 @@ use syntax_kind::kind::Kind;
 use syntax_kind::operators;
 
 // Where the lexer stands, and whether `<` opens a string.
-#[derive(Drop)]
+#[derive(Clone, Copy)]
 pub struct Lexer {
     pub input: PreLexer,
 }
 
 // The kind of an operator or a number that was glued, and the state behind it, where it ends.
-#[derive(Drop)]
+#[derive(Clone, Copy)]
 struct Step {
     pub kind: u8,
     pub next: Lexer,
@@ -26,7 +28,7 @@ struct Step {
 
 // What a step answers: the kind of a token and the state behind it, where the token ends; or the end of the source. The two stand side by side: in a
 // struct of its own the kind would be read four bytes wide, which waits until the one byte, just written, has reached memory.
-#[derive(Drop)]
+#[derive(Clone, Copy)]
 pub enum Next {
     Token { kind: u8, next: Lexer },
     End,

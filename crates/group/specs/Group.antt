@@ -23,4 +23,4 @@ abbrev pub closed : Got → Bool
 closed g = none_met g.errs
 
 abbrev pub nodeless : Line → Bool  -- Only a closed group has no node.
-nodeless l = elim l.node-kind [ none ↦ true | some k ↦ false ]
+nodeless l = elim l.node_kind [ none ↦ true | some k ↦ false ]

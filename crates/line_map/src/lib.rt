@@ -1,4 +1,6 @@
 // The line table of a source, and looking an offset up in one (line_map.rs).
+#![tactic(auto)]
+
 ghost use Rattle.std.specs.Prelude.{◌≡◌, ◌+◌, ◌≤◌, length};
 ghost use Rattle.definition.specs.LineMap.{line_starts};
 ghost use Rattle.definition.specs.Calls.{longest_source, building_lines, looking_up};
@@ -131,7 +133,7 @@ pub fn build(src: &[u8], lines: &mut [u32]) -> Counted
 }
 
 // What a lookup finds.
-#[derive(Drop)]
+#[derive(Clone, Copy)]
 enum Found {
     // The offset's line and column.
     At { line: u32, column: u32 },
@@ -170,7 +172,7 @@ fn find(lines: &[u32], offset: u32) -> Found
 
 // The answer of a lookup: the refusal number, 0 if none, and the line and the column, both from 0.
 #[repr(C)]
-#[derive(Drop)]
+#[derive(Clone, Copy)]
 pub struct Place {
     pub refusal: u32,
     pub line: u32,

@@ -4,7 +4,7 @@ use mathlib.Core.Path.{◌≡◌, refl, ap, ◌∙◌}
 use mathlib.Core.List.{List}
 use native.Mathlib.Omega.{arith}
 use lib.ListN.{length, take, length-take}
-use Rattle.io.specs.Counts as io
+use Rattle.records.specs.Input.{IsPrefixLen}
 use Rattle.definition.specs.Calls.{reading, reading_body}
 use Rattle.table.specs.Fills.{Fills}
 use Rattle.text.specs.declared.Counted.{Counted}
@@ -15,7 +15,7 @@ use Rattle.records.proofs.Answering.{lent}
 use Rattle.listed.specs.Answer.{Answers, Counts}
 
 -- The front of a table that is not longer than it.
-pub front : (n : ℕ) (t : List ℕ) → n ≤ length t → io.IsPrefixLen n t
+pub front : (n : ℕ) (t : List ℕ) → n ≤ length t → IsPrefixLen n t
 front n t h = (h, omega (arith, length-take n t))
 
 pub read_answers : (a b c : ℕ) (t u v x y z src : List ℕ) (got : Reading) → a ≤ most → b ≤ most → c ≤ most → most ≡ length t → most ≡ length u → most ≡ length v

@@ -9,6 +9,8 @@ use crate::print;
 use crate::print::{ENTRY, ERROR};
 use records::rubbish;
 use records::rubbish::MOST;
+use std::io;
+use std::io::Print;
 use tables::Reading;
 use text::Counted;
 
@@ -30,51 +32,61 @@ fn nonzero(t: &[u32]) -> usize
 }
 
 // Prints the line of a reading,
-fn left(text: &[u8], got: Reading, entries: &[u32], errors: &[u32], lines: &[u32])
-    ensures { Unit {0} }
-{
-    print::word(text);
-    print::fields(&[got.refusal, got.entries, got.errors, got.lines]);
-    print::number(nonzero(entries));
-    print::number(nonzero(errors));
-    print::number(nonzero(lines));
-    print::end();
+fn left<P: Print>(
+    rt: &P,
+    text: &[u8],
+    got: Reading,
+    entries: &[u32],
+    errors: &[u32],
+    lines: &[u32],
+) -> io::Result<()> {
+    print::word(rt, text)?;
+    print::fields(rt, &[got.refusal, got.entries, got.errors, got.lines])?;
+    print::number(rt, nonzero(entries))?;
+    print::number(rt, nonzero(errors))?;
+    print::number(rt, nonzero(lines))?;
+    print::end(rt)
 }
 
 // and of a body.
-fn left_of_body(text: &[u8], got: Counted, entries: &[u32])
-    ensures { Unit {0} }
-{
-    print::word(text);
-    print::fields(&[got.refusal, got.count]);
-    print::number(nonzero(entries));
-    print::end();
+fn left_of_body<P: Print>(rt: &P, text: &[u8], got: Counted, entries: &[u32]) -> io::Result<()> {
+    print::word(rt, text)?;
+    print::fields(rt, &[got.refusal, got.count])?;
+    print::number(rt, nonzero(entries))?;
+    print::end(rt)
 }
 
 // Reads a source with three tables of these lengths,
-fn read(text: &[u8], src: &[u8], a: usize, b: usize, c: usize) -> Reading
+fn read<P: Print>(
+    rt: &P,
+    text: &[u8],
+    src: &[u8],
+    a: usize,
+    b: usize,
+    c: usize,
+) -> (Reading, io::Result<()>)
     requires a_le_most { a ≤ most }
     requires b_le_most { b ≤ most }
     requires c_le_most { c ≤ most }
-    ensures { Answers (reading src.now a b c) result }
+    ensures { Answers (reading src.now a b c) result.0 }
 {
     let mut entries = rubbish::numbers();
     let mut errors = rubbish::numbers();
     let mut lines = rubbish::numbers();
     let got = shader_reader::shader_read(src, &mut entries[..a], &mut errors[..b], &mut lines[..c]);
-    left(text, got, &entries[..a], &errors[..b], &lines[..c]);
-    got
+    let printed = left(rt, text, got, &entries[..a], &errors[..b], &lines[..c]);
+    (got, printed)
 }
 
 // and a define body with one.
-fn body(text: &[u8], src: &[u8], room: usize) -> Counted
+fn body<P: Print>(rt: &P, text: &[u8], src: &[u8], room: usize) -> (Counted, io::Result<()>)
     requires { room ≤ most }
-    ensures { Counts (reading_body src.now room) result }
+    ensures { Counts (reading_body src.now room) result.0 }
 {
     let mut entries = rubbish::numbers();
     let got = shader_reader::shader_define_body(src, &mut entries[..room]);
-    left_of_body(text, got, &entries[..room]);
-    got
+    let printed = left_of_body(rt, text, got, &entries[..room]);
+    (got, printed)
 }
 
 // The length of a table of so many numbers,
@@ -100,60 +112,56 @@ fn less(n: usize) -> usize
 }
 
 // Each table one number short, alone,
-fn alone(src: &[u8], a: usize, b: usize, c: usize)
+fn alone<P: Print>(rt: &P, src: &[u8], a: usize, b: usize, c: usize) -> io::Result<()>
     requires a_le_most { a ≤ most }
     requires b_le_most { b ≤ most }
     requires c_le_most { c ≤ most }
-    ensures { Unit {0} }
 {
-    read(b"entries short", src, less(a), b, c);
-    read(b"lines short", src, a, b, less(c));
+    read(rt, b"entries short", src, less(a), b, c).1?;
+    read(rt, b"lines short", src, a, b, less(c)).1?;
     if 0 < b {
-        read(b"errors short", src, a, less(b), c);
+        read(rt, b"errors short", src, a, less(b), c).1?;
     }
+    Ok(())
 }
 
 // with others, and no table at all.
-fn together(src: &[u8], a: usize, b: usize, c: usize)
+fn together<P: Print>(rt: &P, src: &[u8], a: usize, b: usize, c: usize) -> io::Result<()>
     requires a_le_most { a ≤ most }
     requires b_le_most { b ≤ most }
     requires c_le_most { c ≤ most }
-    ensures { Unit {0} }
 {
-    read(b"all short", src, less(a), less(b), less(c));
-    read(b"none", src, 0, 0, 0);
+    read(rt, b"all short", src, less(a), less(b), less(c)).1?;
+    read(rt, b"none", src, 0, 0, 0).1?;
     if 0 < b {
-        read(b"errors and lines short", src, a, less(b), less(c));
+        read(rt, b"errors and lines short", src, a, less(b), less(c)).1?;
     }
+    Ok(())
 }
 
 // Reads a source with tables that are long enough, just long enough, and short.
-pub fn readings(src: &[u8])
-    ensures { Unit {0} }
-{
-    let got = read(b"long enough", src, MOST, MOST, MOST);
+pub fn readings<P: Print>(rt: &P, src: &[u8]) -> io::Result<()> {
+    let (got, printed) = read(rt, b"long enough", src, MOST, MOST, MOST);
+    printed?;
     if got.refusal != 0 {
-        read(b"none", src, 0, 0, 0);
-        return;
+        return read(rt, b"none", src, 0, 0, 0).1;
     }
     let a = enough(got.entries as usize * ENTRY);
     let b = enough(got.errors as usize * ERROR);
     let c = enough(got.lines as usize);
-    read(b"just enough", src, a, b, c);
-    alone(src, a, b, c);
-    together(src, a, b, c);
+    read(rt, b"just enough", src, a, b, c).1?;
+    alone(rt, src, a, b, c)?;
+    together(rt, src, a, b, c)
 }
 
 // Reads it as a define body.
-pub fn bodies(src: &[u8])
-    ensures { Unit {0} }
-{
-    let got = body(b"body", src, MOST);
+pub fn bodies<P: Print>(rt: &P, src: &[u8]) -> io::Result<()> {
+    let (got, printed) = body(rt, b"body", src, MOST);
+    printed?;
     if got.refusal != 0 {
-        body(b"body none", src, 0);
-        return;
+        return body(rt, b"body none", src, 0).1;
     }
     let a = enough(got.count as usize * ENTRY);
-    body(b"body just enough", src, a);
-    body(b"body short", src, less(a));
+    body(rt, b"body just enough", src, a).1?;
+    body(rt, b"body short", src, less(a)).1
 }

@@ -1,8 +1,9 @@
 // The lines of a listing: a word, and numbers behind commas.
 ghost use Rattle.std.specs.Prelude.{◌≡◌, ◌<◌, min, length};
-ghost use Rattle.io.specs.Counts.{IsPrefixLen};
+ghost use Rattle.records.specs.Input.{IsPrefixLen};
 
-use libc::STDOUT_FILENO;
+use std::io;
+use std::io::Print;
 use tables::Reading;
 
 // How many numbers an entry has, and an error.
@@ -14,64 +15,45 @@ pub const ERROR: usize = 10;
 const LEAF: u32 = 0;
 
 // Prints a word,
-pub fn word(text: &[u8])
-    ensures { Unit {0} }
-{
-    io::write_all(STDOUT_FILENO, text);
+pub fn word<P: Print>(rt: &P, text: &[u8]) -> io::Result<()> {
+    rt.write_all(text)
 }
 
 // a number behind it,
-pub fn number(n: usize)
-    ensures { Unit {0} }
-{
-    io::write_all(STDOUT_FILENO, b",");
-    io::print_decimal(STDOUT_FILENO, n as u64);
+pub fn number<P: Print>(rt: &P, n: usize) -> io::Result<()> {
+    rt.write_all(b",")?;
+    rt.print(n)
 }
 
 // which may be one of a table,
-fn field(n: u32)
-    ensures { Unit {0} }
-{
-    number(n as usize);
+fn field<P: Print>(rt: &P, n: u32) -> io::Result<()> {
+    number(rt, n as usize)
 }
 
 // or all of a row of them,
-pub fn fields(row: &[u32])
-    ensures { Unit {0} }
-{
-    let mut i = 0;
-    while i < row.len() {
-        field(row[i]);
-        i += 1;
+pub fn fields<P: Print>(rt: &P, row: &[u32]) -> io::Result<()> {
+    for n in row {
+        field(rt, *n)?;
     }
+    Ok(())
 }
 
 // a value,
-pub fn signed(x: i32)
-    ensures { Unit {0} }
-{
-    if x < 0 {
-        io::write_all(STDOUT_FILENO, b",-");
-        io::print_decimal(STDOUT_FILENO, !x as u64 + 1);
-        return;
-    }
-    number(x as usize);
+pub fn signed<P: Print>(rt: &P, x: i32) -> io::Result<()> {
+    rt.write_all(b",")?;
+    rt.print(x)
 }
 
 // and the end of the line.
-pub fn end()
-    ensures { Unit {0} }
-{
-    io::write_all(STDOUT_FILENO, b"\n");
+pub fn end<P: Print>(rt: &P) -> io::Result<()> {
+    rt.write_all(b"\n")
 }
 
 // Prints a line: a word and a row.
-fn line(text: &[u8], row: &[u32])
-    ensures { Unit {0} }
-{
-    word(text);
-    fields(row);
-    end();
+fn line<P: Print>(rt: &P, text: &[u8], row: &[u32]) -> io::Result<()> {
+    word(rt, text)?;
+    fields(rt, row)?;
+    end(rt)
 }
 
 // How many of so many numbers a table has.
@@ -86,51 +68,52 @@ fn used(t: &[u32], n: usize) -> usize
 }
 
 // Prints the rows of a table, each behind the same word.
-fn rows(text: &[u8], t: &[u32], width: usize)
+fn rows<P: Print>(rt: &P, text: &[u8], t: &[u32], width: usize) -> io::Result<()>
     requires { 0 < width }
-    ensures { Unit {0} }
 {
-    let mut at = 0;
+    let mut at: usize = 0;
     while width <= t.len() - at {
-        line(text, &t[at..at + width]);
+        line(rt, text, &t[at..at + width])?;
         at += width;
     }
+    Ok(())
 }
 
 // Prints an entry; its form is the word.
-fn entry(form: u32, row: &[u32])
-    ensures { Unit {0} }
-{
+fn entry<P: Print>(rt: &P, form: u32, row: &[u32]) -> io::Result<()> {
     if form == LEAF {
-        line(b"leaf", row);
-        return;
+        return line(rt, b"leaf", row);
     }
-    line(b"node", row);
+    line(rt, b"node", row)
 }
 
 // Prints entries.
-fn entry_rows(t: &[u32])
-    ensures { Unit {0} }
-{
-    let mut at = 0;
+fn entry_rows<P: Print>(rt: &P, t: &[u32]) -> io::Result<()> {
+    let mut at: usize = 0;
     while ENTRY <= t.len() - at {
-        entry(t[at], &t[at + 1..at + ENTRY]);
+        entry(rt, t[at], &t[at + 1..at + ENTRY])?;
         at += ENTRY;
     }
+    Ok(())
 }
 
 // Prints an answer, and what it counts in the tables.
-pub fn reading(got: Reading, entries: &[u32], errors: &[u32], lines: &[u32])
-    ensures { Unit {0} }
-{
+pub fn reading<P: Print>(
+    rt: &P,
+    got: Reading,
+    entries: &[u32],
+    errors: &[u32],
+    lines: &[u32],
+) -> io::Result<()> {
     line(
+        rt,
         b"answer",
         &[got.refusal, got.entries, got.errors, got.lines],
-    );
+    )?;
     let n = used(entries, got.entries as usize * ENTRY);
-    entry_rows(&entries[..n]);
+    entry_rows(rt, &entries[..n])?;
     let m = used(errors, got.errors as usize * ERROR);
-    rows(b"error", &errors[..m], ERROR);
+    rows(rt, b"error", &errors[..m], ERROR)?;
     let l = used(lines, got.lines as usize);
-    rows(b"line", &lines[..l], 1);
+    rows(rt, b"line", &lines[..l], 1)
 }

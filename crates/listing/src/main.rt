@@ -1,7 +1,9 @@
 // Prints the reading of the source on standard input, in the format of document 01.
+#![tactic(auto)]
+
 ghost use Rattle.std.specs.Prelude.{◌≡◌, length};
 
-use libc::STDIN_FILENO;
+use std::io;
 
 // One byte more than the longest source that is listed.
 fn buffer() -> [u8; 513]
@@ -10,8 +12,8 @@ fn buffer() -> [u8; 513]
     [0; 513]
 }
 
-fn main() {
+fn main(rt: HostRuntime) -> io::Result<()> {
     let mut src = buffer();
-    let n = io::read_full(STDIN_FILENO, &mut src);
-    listed::listing(&src[..n]);
+    let n = records::input::read_full(&mut rt.reader(), &mut src)?;
+    listed::listing(&rt, &src[..n])
 }

@@ -18,7 +18,7 @@ use tree::Pen;
 // The leaf that is seen: its range, whether an angle string is expected behind it, and its kind, 0 at the end of the source. Start and end are not
 // neighbours, and the kind stands at no multiple of four: a read of more bytes than were just written at once would wait until they have reached
 // memory, and a byte at such a place is read four bytes wide.
-#[derive(Drop)]
+#[derive(Clone, Copy)]
 pub struct Seen {
     pub start: u32,
     pub angle: bool,
@@ -27,7 +27,7 @@ pub struct Seen {
 }
 
 // What has been read: the leaf that is seen, and where the tree writer stands.
-#[derive(Drop)]
+#[derive(Clone, Copy)]
 pub struct Run {
     pub seen: Seen,
     pub pen: Pen,

@@ -11,7 +11,7 @@ use crate::Seen;
 use tree::Pen;
 
 // A row of trivia: its first leaf and the leaf behind it. It is empty if both start at one place.
-#[derive(Drop)]
+#[derive(Clone, Copy)]
 pub struct Trivia {
     pub first: Seen,
     pub next: Seen,

@@ -98,9 +98,18 @@ pub record Rowed (p : Reader) : Type 0 where
   pub tree : (ts : List Leaf) → (p ts).tree ≡ row (leaves (p ts).tree)
   pub errs : (ts : List Leaf) → (p ts).errs ≡ []
 
-pub bump_rowed : Rowed bump
+bump_tree : (ts : List Leaf) → (bump ts).tree ≡ row (leaves (bump ts).tree)
 unfolding bump row leaves
-bump_rowed = record { tree = λ ts. elim ts [ [] ↦ refl | t ∷ ts ↦ refl ]; errs = λ ts. elim ts [ [] ↦ refl | t ∷ ts ↦ refl ] }
+bump_tree [] = refl
+bump_tree (t ∷ ts) = refl
+
+bump_errs : (ts : List Leaf) → (bump ts).errs ≡ []
+unfolding bump
+bump_errs [] = refl
+bump_errs (t ∷ ts) = refl
+
+pub bump_rowed : Rowed bump
+bump_rowed = record { tree = bump_tree; errs = bump_errs }
 
 pub skip_rowed : (q : Leaf → Bool) → Rowed (skip q)
 unfolding skip

@@ -15,7 +15,7 @@ use syntax_kind::kind::Kind;
 use tree::level::OPEN_LEVELS;
 
 // Where the parser stands, the place of the next error, and whether a body held too many ##.
-#[derive(Drop)]
+#[derive(Clone, Copy)]
 pub struct ParserRun {
     pub run: Run,
     pub errs: usize,
@@ -185,7 +185,7 @@ pub fn expect_one(
 }
 
 // The answer of `expect_any`: what follows, and whether the leaf was expected.
-#[derive(Drop)]
+#[derive(Clone, Copy)]
 pub struct Expected {
     pub state: ParserRun,
     pub found: bool,

@@ -10,7 +10,7 @@ use lib.ListN.{drop}
 use borrow.Author.Tests.{ne_eqb}
 use Rattle.definition.specs.Text.{byte}
 use Rattle.definition.specs.Newline.{LF, CR, char_more, newline}
-use Rattle.definition.specs.Pre.{State, multi-comment, single-comment, quote-string, angle-string, more}
+use Rattle.definition.specs.Pre.{State, multi_comment, single_comment, quote_string, angle_string, more}
 use Rattle.theorems.specs.Walk.{longer, walk}
 use Rattle.theorems.proofs.Lexing.Chars.{Goes_on, tail, cr_lf, lf_cr, goes_on}
 use Rattle.theorems.proofs.Lexing.Lines.{no_newline_byte}
@@ -46,24 +46,24 @@ module _ (q : State) (x : ℕ) (low : x < 128) (n : LF ≡ x → ⊥) (m : CR �
   any_but : (c i : ℕ) (s : List ℕ) → from q c i s ≡ from q 0 i s
   any_but c i s = from_any q (λ c. Unit {0}) (record { takes = λ c b c' p g. (stays c b c' g, (tt, tt)) }) c i s tt
 
-pub any_comment : (c i : ℕ) (s : List ℕ) → from multi-comment c i s ≡ from multi-comment 0 i s
+pub any_comment : (c i : ℕ) (s : List ℕ) → from multi_comment c i s ≡ from multi_comment 0 i s
 unfolding more
-any_comment c i s = any_but multi-comment (byte "*") (omega arith) (λ z. omega arith) (λ z. omega arith) (λ b e. rw e) c i s
+any_comment c i s = any_but multi_comment (byte "*") (omega arith) (λ z. omega arith) (λ z. omega arith) (λ b e. rw e) c i s
 
-pub any_quote : (c i : ℕ) (s : List ℕ) → from quote-string c i s ≡ from quote-string 0 i s
+pub any_quote : (c i : ℕ) (s : List ℕ) → from quote_string c i s ≡ from quote_string 0 i s
 unfolding more
-any_quote c i s = any_but quote-string (byte "\"") (omega arith) (λ z. omega arith) (λ z. omega arith) (λ b e. rw e) c i s
+any_quote c i s = any_but quote_string (byte "\"") (omega arith) (λ z. omega arith) (λ z. omega arith) (λ b e. rw e) c i s
 
-pub any_angle : (c i : ℕ) (s : List ℕ) → from angle-string c i s ≡ from angle-string 0 i s
+pub any_angle : (c i : ℕ) (s : List ℕ) → from angle_string c i s ≡ from angle_string 0 i s
 unfolding more
-any_angle c i s = any_but angle-string (byte ">") (omega arith) (λ z. omega arith) (λ z. omega arith) (λ b e. rw e) c i s
+any_angle c i s = any_but angle_string (byte ">") (omega arith) (λ z. omega arith) (λ z. omega arith) (λ b e. rw e) c i s
 
 -- A comment to the end of the line, behind a character that is no newline.
-pub any_line : (c i : ℕ) (s : List ℕ) → newline c ≡ false → from single-comment c i s ≡ from single-comment 0 i s
+pub any_line : (c i : ℕ) (s : List ℕ) → newline c ≡ false → from single_comment c i s ≡ from single_comment 0 i s
 unfolding more
-any_line c i s p = from_any single-comment (λ c. newline c ≡ false) (record { takes = takes_all }) c i s p
+any_line c i s p = from_any single_comment (λ c. newline c ≡ false) (record { takes = takes_all }) c i s p
   where
-    takes_all : (c b c' : ℕ) → newline c ≡ false → Goes_on c b c' → (more single-comment b ≡ some single-comment) × ((newline c' ≡ false) × (newline b ≡ false))
+    takes_all : (c b c' : ℕ) → newline c ≡ false → Goes_on c b c' → (more single_comment b ≡ some single_comment) × ((newline c' ≡ false) × (newline b ≡ false))
     takes_all c b c' p (tail e l h) =
         let n : newline b ≡ false = no_newline_byte b (omega arith) (λ z. omega arith) (λ z. omega arith) in
         (rw (n, ne_eqb b (byte "\\") (λ z. omega arith)), (rw e p, n))

@@ -14,7 +14,7 @@ use lib.ListN.{length, get_or}
 use Rattle.definition.specs.Text.{among, byte}
 use Rattle.definition.specs.SyntaxKind.{Kind}
 use Rattle.definition.specs.Newline.{letter, digit, newline}
-use Rattle.definition.specs.Pre.{State, ident, single-comment, multi-comment, kind_of, more}
+use Rattle.definition.specs.Pre.{State, ident, single_comment, multi_comment, kind_of, more}
 use Rattle.theorems.proofs.Lexing.Lines.{no_newline_byte}
 use Rattle.theorems.proofs.Lexing.Walk.{zero_none}
 use Rattle.text.specs.Stretch.{Stretch, Look, gathered, step_passes, nowhere, place_of, first_place}
@@ -120,18 +120,18 @@ module _ (b : ℕ) where
 
 -- Such a byte leaves the state as it is.
 module _ (s : List ℕ) (i : ℕ) (h : i < length s) where
-  line_over : Fits w8 (get_or s i 0) → in_line (get_or s i 0) ≡ true → from single-comment 0 i s ≡ from single-comment 0 (i + 1) s
+  line_over : Fits w8 (get_or s i 0) → in_line (get_or s i 0) ≡ true → from single_comment 0 i s ≡ from single_comment 0 (i + 1) s
   unfolding more
   line_over k e =
       let n : newline (get_or s i 0) ≡ false = quiet_byte _ k e in
-      from_more single-comment 0 i s h single-comment (zero_none _) (rw (n, (not_loud _ e).1)) ∙ any_line (get_or s i 0) (i + 1) s n
+      from_more single_comment 0 i s h single_comment (zero_none _) (rw (n, (not_loud _ e).1)) ∙ any_line (get_or s i 0) (i + 1) s n
 
   word_over : in_word (get_or s i 0) ≡ true → from ident 0 i s ≡ from ident 0 (i + 1) s
   word_over e = go_on ident ident i s h (word_closed _ e) (word_goes _ e)
 
-  star_over : star_mark (get_or s i 0) ≡ 0 → from multi-comment 0 i s ≡ from multi-comment 0 (i + 1) s
+  star_over : star_mark (get_or s i 0) ≡ 0 → from multi_comment 0 i s ≡ from multi_comment 0 (i + 1) s
   unfolding more
-  star_over e = from_more multi-comment 0 i s h multi-comment (zero_none _) (rw (not_star _ e)) ∙ any_comment (get_or s i 0) (i + 1) s
+  star_over e = from_more multi_comment 0 i s h multi_comment (zero_none _) (rw (not_star _ e)) ∙ any_comment (get_or s i 0) (i + 1) s
 
 pub pass_none : (q : State) (s : List ℕ) (at : ℕ) → Passes q s at at
 pass_none q s at = record { forward = omega arith; is = refl }
@@ -182,19 +182,19 @@ module _ (f : ℕ → ℕ) (s : List ℕ) (at : ℕ) where
     pub nearer : length s - (at + look.size) < length s - at
     nearer = omega (arith, within)
 
-pub star_on : (s : List ℕ) (from₀ at : ℕ) (r : Bool) → r ≡ true → Passes multi-comment s from₀ at → r ≡ step_passes star_look s at → Passes multi-comment s from₀ (at + star_look.size)
-star_on s from₀ at r t k e = pass_on multi-comment s (star_over s) from₀ at (at + star_look.size) k (step_stretch star_mark s at r e t)
+pub star_on : (s : List ℕ) (from₀ at : ℕ) (r : Bool) → r ≡ true → Passes multi_comment s from₀ at → r ≡ step_passes star_look s at → Passes multi_comment s from₀ (at + star_look.size)
+star_on s from₀ at r t k e = pass_on multi_comment s (star_over s) from₀ at (at + star_look.size) k (step_stretch star_mark s at r e t)
 
 -- A look at a single-line comment is passed over, up to a place in it or whole,
-module _ (s : List ℕ) (known : (i : ℕ) → Fits w8 (get_or s i 0)) (from₀ at m : ℕ) (k : Passes single-comment s from₀ at)
+module _ (s : List ℕ) (known : (i : ℕ) → Fits w8 (get_or s i 0)) (from₀ at m : ℕ) (k : Passes single_comment s from₀ at)
     (h : at + line_step ≤ length s) (e : m ≡ first_place in_line line_step at s) where
-  over : (to : ℕ) → Stretch (λ b. in_line b ≡ true) s at to → Passes single-comment s from₀ to
-  over to = pass_on single-comment s (λ i l. line_over s i l (known i)) from₀ at to k
+  over : (to : ℕ) → Stretch (λ b. in_line b ≡ true) s at to → Passes single_comment s from₀ to
+  over to = pass_on single_comment s (λ i l. line_over s i l (known i)) from₀ at to k
 
-  pub line_part : m < line_step → Passes single-comment s from₀ (at + m)
+  pub line_part : m < line_step → Passes single_comment s from₀ (at + m)
   line_part l = over (at + m) (look_part in_line line_step s at m h e l)
 
-  pub line_whole : line_step ≤ m → Passes single-comment s from₀ (at + line_step)
+  pub line_whole : line_step ≤ m → Passes single_comment s from₀ (at + line_step)
   line_whole l = over (at + line_step) (look_whole in_line line_step s at m h e l)
 
 -- and an identifier that ends in a look is read.

@@ -12,7 +12,7 @@ use mir.Syntax.{w64}
 use Rattle.definition.specs.Text.{byte}
 use Rattle.definition.specs.SyntaxKind.{Kind}
 use Rattle.definition.specs.Newline.{newline, chars}
-use Rattle.definition.specs.Pre.{State, Place, done, ident, backslash, digits, alone, in-ident, in_digits, more, kind_of}
+use Rattle.definition.specs.Pre.{State, Place, done, ident, backslash, digits, alone, in_ident, in_digits, more, kind_of}
 use Rattle.text.specs.Newline.{newline_len}
 use Rattle.text.proofs.Newlines.{newline_none, no_newline, a_newline, newline_within}
 use Rattle.theorems.proofs.Lexing.Walk.{zero_none}
@@ -33,7 +33,7 @@ pub record Back (p : Place) (q : State) : Type 0 where
   pub stops : (c : ℕ) → newline c ≡ false → more (backslash p) c ≡ none
   pub is : kind_of (backslash p) ≡ Kind.BACKSLASH
 
-pub back_ident : Back in-ident ident
+pub back_ident : Back in_ident ident
 unfolding more kind_of
 back_ident = record { goes = λ c e. rw e; stops = λ c e. rw e; is = refl }
 

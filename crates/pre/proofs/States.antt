@@ -9,7 +9,7 @@ use borrow.Author.Tests.{ne_eqb, eqb-true, not-true}
 use Rattle.definition.specs.Text.{List, one_of, byte}
 use Rattle.definition.specs.SyntaxKind.{Kind}
 use Rattle.definition.specs.Newline.{letter, digit, newlines, newline, blanks, blank}
-use Rattle.definition.specs.Pre.{done, slash, ident, single-comment, whitespace, backslash, digits, alone, in_digits, begin, flag, more}
+use Rattle.definition.specs.Pre.{done, slash, ident, single_comment, whitespace, backslash, digits, alone, in_digits, begin, flag, more}
 use Rattle.pre.specs.Table.{ClassNumber, punct, class_number}
 use Rattle.pre.specs.Scan.{takes_point}
 use Rattle.theorems.proofs.Grammar.Clean.{or_left, or_right}
@@ -60,11 +60,11 @@ module _ (b k : ℕ) (c : k ≡ class_number b) where
   whitespace_stops h = rw (no_blank b k c h)
 
   -- comments to the end of the line,
-  pub single_stops : k ≡ ClassNumber.NEWLINE → more single-comment b ≡ none
+  pub single_stops : k ≡ ClassNumber.NEWLINE → more single_comment b ≡ none
   unfolding more
   single_stops h = rw ((says b k c).newline_is h)
 
-  pub single_goes : (k ≡ ClassNumber.NEWLINE → ⊥) → (b ≡ byte "\\" → ⊥) → more single-comment b ≡ some single-comment
+  pub single_goes : (k ≡ ClassNumber.NEWLINE → ⊥) → (b ≡ byte "\\" → ⊥) → more single_comment b ≡ some single_comment
   unfolding more
   single_goes h n = rw (no_newline b k c h, ne_eqb b (byte "\\") n)
 

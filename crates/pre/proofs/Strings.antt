@@ -8,7 +8,7 @@ use lib.ListN.{length, get_or}
 use borrow.Author.Tests.{ne_eqb}
 use Rattle.definition.specs.Text.{byte}
 use Rattle.definition.specs.SyntaxKind.{Kind}
-use Rattle.definition.specs.Pre.{State, done, quote-string, angle-string, more, kind_of}
+use Rattle.definition.specs.Pre.{State, done, quote_string, angle_string, more, kind_of}
 use Rattle.pre.specs.Scan.{from}
 use Rattle.pre.proofs.Classes.{closed, closed_is}
 use Rattle.pre.proofs.Froms.{token}
@@ -23,11 +23,11 @@ pub record Quoted (q : State) (x d : ℕ) : Type 0 where
   unended : kind_of q ≡ Kind.ERROR
   single : closed x ≡ true
 
-pub quoted : Quoted quote-string (byte "\"") Kind.QUOTE_STRING
+pub quoted : Quoted quote_string (byte "\"") Kind.QUOTE_STRING
 unfolding more kind_of
 quoted = record { closes = refl; goes = λ b n. rw (ne_eqb b (byte "\"") n); any = any_quote; unended = refl; single = refl }
 
-pub angled : Quoted angle-string (byte ">") Kind.ANGLE_STRING
+pub angled : Quoted angle_string (byte ">") Kind.ANGLE_STRING
 unfolding more kind_of
 angled = record { closes = refl; goes = λ b n. rw (ne_eqb b (byte ">") n); any = any_angle; unended = refl; single = refl }
 

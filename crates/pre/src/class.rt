@@ -5,7 +5,7 @@ ghost use Rattle.pre.specs.Table.{class_number, class_table as Table·class_tabl
 use syntax_kind::kind::Kind;
 
 // The entries of the table. Punctuation has none of its own: its entry is the kind of the character as a token, PERIOD or more.
-#[derive(Drop)]
+#[derive(Clone, Copy)]
 pub struct Class {
     pub number: u8,
 }

@@ -57,7 +57,7 @@ fn first_loud(src: &[u8], at: usize) -> u8
 
 // Behind the bytes at a place that go on with a single-line comment, as far as LINE_STEP bytes stand.
 fn pass_quiet(src: &[u8], at: usize) -> usize
-    ensures { Passes state.single-comment src.now at result }
+    ensures { Passes state.single_comment src.now at result }
 {
     let mut i = at;
     while stretch::stand(src, i, LINE_STEP) {
@@ -73,7 +73,7 @@ fn pass_quiet(src: &[u8], at: usize) -> usize
 // The rest of a single-line comment, from `at` on: a backslash takes the next character.
 pub fn single_comment(src: &[u8], table: &[u8; 256], at: usize) -> Token
     requires { table.now ≡ class_table }
-    ensures { result ≡ from state.single-comment 0 at src.now }
+    ensures { result ≡ from state.single_comment 0 at src.now }
 {
     let mut i = pass_quiet(src, at);
     while i < src.len() {
@@ -145,7 +145,7 @@ fn no_star(src: &[u8], at: usize) -> bool
 
 // Behind the bytes at a place that are no stars, in whole steps.
 fn pass_no_star(src: &[u8], at: usize) -> usize
-    ensures { Passes state.multi-comment src.now at result }
+    ensures { Passes state.multi_comment src.now at result }
 {
     let mut i = at;
     while no_star(src, i) {
@@ -156,7 +156,7 @@ fn pass_no_star(src: &[u8], at: usize) -> usize
 
 // The rest of a comment, from `at` on: a star takes the next character.
 pub fn multi_comment(src: &[u8], at: usize) -> Token
-    ensures { result ≡ from state.multi-comment 0 at src.now }
+    ensures { result ≡ from state.multi_comment 0 at src.now }
 {
     let mut i = pass_no_star(src, at);
     while i < src.len() {

@@ -1,4 +1,6 @@
 // The pre-lexer: tokens of one or more characters, before operators are glued (`pre.rs`).
+#![tactic(auto)]
+
 pub mod backslash;
 pub mod character;
 pub mod class;
@@ -64,21 +66,21 @@ fn keeps(table: &[u8; 256], angle: bool, b: u8) -> bool
 }
 
 // Where the pre-lexer stands, and whether `<` opens a string.
-#[derive(Drop)]
+#[derive(Clone, Copy)]
 pub struct PreLexer {
     pub at: usize,
     pub angle: bool,
 }
 
 // The kind of a token, and the state behind it, where the token ends.
-#[derive(Drop)]
+#[derive(Clone, Copy)]
 pub struct PreStep {
     pub kind: u8,
     pub next: PreLexer,
 }
 
 // What a step answers: a token, or the end of the source.
-#[derive(Drop)]
+#[derive(Clone, Copy)]
 pub enum PreNext {
     Token(PreStep),
     End,

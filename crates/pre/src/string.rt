@@ -8,7 +8,7 @@ use syntax_kind::kind::Kind;
 
 // The rest of a string, from `at` on.
 pub fn quote_string(src: &[u8], at: usize) -> Token
-    ensures { result ≡ from state.quote-string 0 at src.now }
+    ensures { result ≡ from state.quote_string 0 at src.now }
 {
     let mut i = at;
     while i < src.len() {
@@ -28,7 +28,7 @@ pub fn quote_string(src: &[u8], at: usize) -> Token
 
 // The rest of an angle string, from `at` on.
 pub fn angle_string(src: &[u8], at: usize) -> Token
-    ensures { result ≡ from state.angle-string 0 at src.now }
+    ensures { result ≡ from state.angle_string 0 at src.now }
 {
     let mut i = at;
     while i < src.len() {

@@ -64,7 +64,7 @@ module _ (src : List ℕ) (a b c : ℕ) where
       → ReadsSource src a b c r x y z
   unfolding reading outcome filled
   accepted_by r x y z e n w =
-      promised r x y z (rw (e, n, w.entry-count, w.error-count, w.line-count, w.entry-table, w.error-table, w.line-table) refl)
+      promised r x y z (rw (e, n, w.entry_count, w.error_count, w.line_count, w.entry_table, w.error_table, w.line_table) refl)
 
   -- The refusals after those of the source, in their order.
   module _ (r : ℕ) (e : r ≡ refusal (source_checks src)) where

@@ -1,45 +1,33 @@
 // Lists the files that the arguments name, as `listing` does, and reads each again with tables of all lengths that matter.
-ghost use Rattle.io.specs.Counts.{IsPrefixLen};
+#![tactic(auto)]
 
-use libc::STDOUT_FILENO;
+ghost use Rattle.std.specs.Prelude.{IfOk};
+ghost use Rattle.records.specs.Input.{IsPrefixLen};
+
+use std::fs::File;
+use std::{env, io};
 
 // Reads a file into a buffer, and answers how many bytes it read.
-fn read_file(name: &[u8], buf: &mut [u8]) -> usize
-    ensures { IsPrefixLen result buf.new }
+fn read_file(rt: &HostRuntime, name: &str, buf: &mut [u8]) -> io::Result<usize>
+    ensures { IfOk result (λ n. IsPrefixLen n buf.new) }
 {
-    let fd = os::open_read(name);
-    let n = io::read_full(fd, buf);
-    libc::close(fd);
-    n
+    records::input::read_full(&mut File::open(rt, name)?, buf)
 }
 
 // Shows a source under its name.
-fn show(name: &[u8])
-    ensures { Unit {0} }
-{
-    let mut buf = io::buffer();
-    let n = read_file(name, &mut buf);
-    io::write_all(STDOUT_FILENO, name);
-    io::write_all(STDOUT_FILENO, b"\n");
-    listed::listing(&buf[..n]);
-    listed::lengths::readings(&buf[..n]);
-    listed::lengths::bodies(&buf[..n]);
+fn show(rt: &HostRuntime, name: &str) -> io::Result<()> {
+    let mut buf = records::input::buffer();
+    let n = read_file(rt, name, &mut buf)?;
+    listed::print::word(rt, name.as_bytes())?;
+    listed::print::end(rt)?;
+    listed::listing(rt, &buf[..n])?;
+    listed::lengths::readings(rt, &buf[..n])?;
+    listed::lengths::bodies(rt, &buf[..n])
 }
 
-// Shows the file that an argument names.
-fn show_argument(i: usize)
-    ensures { Unit {0} }
-{
-    let mut name = io::buffer();
-    let n = os::arg(i, &mut name);
-    show(&name[..n]);
-}
-
-fn main() {
-    let count = os::arg_count();
-    let mut i = 1;
-    while i < count {
-        show_argument(i);
-        i += 1;
+fn main(rt: HostRuntime) -> io::Result<()> {
+    for name in env::args(&rt)?.skip(1) {
+        show(&rt, name.as_str())?;
     }
+    Ok(())
 }

@@ -91,12 +91,12 @@ module _ (input t t₁ : List ℕ) (n : ℕ) (w : Written (numbers input) t n t�
 
     read : take n t₁ ≡ numbers input
     read =
-        let e : n ≡ length (numbers input) = w.count-is in
+        let e : n ≡ length (numbers input) = w.count_is in
         let b : 0 + length (numbers input) ≤ length t = omega arith in
         rw (w.table_is, sets-eq (numbers input) t 0 b) (take_at (numbers input) _ n (sym e))
 
     pub starts_behind : (offset r at : ℕ) (s : List ℕ) → r ≡ passed (looked_numbers (looking_up (take n t₁) offset)) s at → r ≡ lookup_behind offset input s at
-    starts_behind offset r at s q = q ∙ rw (read, ← w.count-is, le-ltb most n h)
+    starts_behind offset r at s q = q ∙ rw (read, ← w.count_is, le-ltb most n h)
 
   pub long_behind : (offset at : ℕ) (s : List ℕ) → most < n → far ≡ lookup_behind offset input s at
-  long_behind offset at s h = rw (← w.count-is, lt-ltb most n h)
+  long_behind offset at s h = rw (← w.count_is, lt-ltb most n h)

@@ -1,5 +1,6 @@
 pub mod Answers
 pub mod Compared
+pub mod Input
 pub mod Numbers
 pub mod Rubbish
 pub mod Stand

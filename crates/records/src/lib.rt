@@ -1,5 +1,6 @@
 // Recorded answers of the calls (compare/record.py tells the format): run again and compared.
 pub mod agree;
+pub mod input;
 mod number;
 pub mod rubbish;
 mod stand;
@@ -11,7 +12,7 @@ use number::{number, pair};
 use stand::FAR;
 
 // How the records of a file compare.
-#[derive(Drop)]
+#[derive(Clone, Copy)]
 pub enum Comparison {
     // Each agrees, and there are so many.
     Same { records: usize },

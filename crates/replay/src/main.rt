@@ -1,10 +1,14 @@
 // Runs the calls again on the inputs whose answers were recorded of the Rust (data/README.md), and compares. What is printed no contract can say:
-// the functions that print return nothing and promise nothing.
-ghost use Rattle.std.specs.Prelude.{◌≡◌, replicate};
-ghost use Rattle.io.specs.Counts.{IsPrefixLen};
+// the functions that print promise nothing.
+#![tactic(auto)]
 
-use libc::STDOUT_FILENO;
-use records::{Comparison, agree};
+ghost use Rattle.std.specs.Prelude.{◌≡◌, IfOk, replicate};
+ghost use Rattle.records.specs.Input.{IsPrefixLen};
+
+use records::Comparison;
+use records::agree;
+use std::fs::File;
+use std::io;
 
 // Longer than each file.
 const SIZE: usize = 524_288;
@@ -16,50 +20,38 @@ fn buffer() -> [u8; SIZE]
 }
 
 // Reads a file of records into a buffer, and answers how many bytes it read.
-fn read_records(name: &[u8], buf: &mut [u8]) -> usize
-    ensures { IsPrefixLen result buf.new }
+fn read_records(rt: &HostRuntime, name: &str, buf: &mut [u8]) -> io::Result<usize>
+    ensures { IfOk result (λ n. IsPrefixLen n buf.new) }
 {
-    let fd = os::open_read(name);
-    let n = io::read_full(fd, buf);
-    libc::close(fd);
-    n
+    records::input::read_full(&mut File::open(rt, name)?, buf)
 }
 
 // Prints a line: a call, a word and a number.
-fn print_line(call: &[u8], word: &[u8], n: usize)
-    ensures { Unit {0} }
-{
-    io::write_all(STDOUT_FILENO, call);
-    io::write_all(STDOUT_FILENO, word);
-    io::print_decimal(STDOUT_FILENO, n as u64);
-    io::write_all(STDOUT_FILENO, b"\n");
+fn print_line(rt: &HostRuntime, call: &str, word: &str, n: usize) -> io::Result<()> {
+    println!(rt; "{call}{word}{n}")
 }
 
 // Prints how many records there are, all the same, or the first that differs.
-fn print_comparison(call: &[u8], c: Comparison)
-    ensures { Unit {0} }
-{
+fn print_comparison(rt: &HostRuntime, call: &str, c: Comparison) -> io::Result<()> {
     match c {
-        Comparison::Same { records } => print_line(call, b",same,", records),
-        Comparison::Differs { number } => print_line(call, b",first difference,", number),
+        Comparison::Same { records } => print_line(rt, call, ",same,", records),
+        Comparison::Differs { number } => print_line(rt, call, ",first difference,", number),
     }
 }
 
 // Replays the records of a call: the file has its name.
-fn replay(name: &[u8], call: u8)
-    ensures { Unit {0} }
-{
+fn replay(rt: &HostRuntime, name: &str, call: u8) -> io::Result<()> {
     let mut buf = buffer();
-    let n = read_records(name, &mut buf);
-    print_comparison(name, records::compare(call, &buf[..n]));
+    let n = read_records(rt, name, &mut buf)?;
+    print_comparison(rt, name, records::compare(call, &buf[..n]))
 }
 
-fn main() {
-    replay(b"tokens", agree::TOKENS);
-    replay(b"lines", agree::LINES);
-    replay(b"unescape", agree::UNESCAPE);
-    replay(b"lookup", agree::LOOKUP);
-    replay(b"paste", agree::PASTE);
-    replay(b"read", agree::READ);
-    replay(b"body", agree::BODY);
+fn main(rt: HostRuntime) -> io::Result<()> {
+    replay(&rt, "tokens", agree::TOKENS)?;
+    replay(&rt, "lines", agree::LINES)?;
+    replay(&rt, "unescape", agree::UNESCAPE)?;
+    replay(&rt, "lookup", agree::LOOKUP)?;
+    replay(&rt, "paste", agree::PASTE)?;
+    replay(&rt, "read", agree::READ)?;
+    replay(&rt, "body", agree::BODY)
 }

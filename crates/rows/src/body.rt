@@ -69,7 +69,7 @@ fn row_node(
 }
 
 // The answer of a body.
-#[derive(Drop)]
+#[derive(Clone, Copy)]
 pub struct BodyRun {
     pub run: Run,
     pub over: bool,

@@ -14,7 +14,7 @@ use tree::level::OPEN_LEVELS;
 
 // What was read of a row: where the pen stands, the trivia behind the row, which is passed over and not written, and whether there were too
 // many ##.
-#[derive(Drop)]
+#[derive(Clone, Copy)]
 pub struct BodyRow {
     pub pen: Pen,
     pub trivia: Trivia,

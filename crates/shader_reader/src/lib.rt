@@ -13,8 +13,7 @@ use tables::Reading;
 use text::Counted;
 
 // Reads a source: its tree as entries, its errors, and where its lines start. The contract is the three demands, in named fields.
-#[unsafe(no_mangle)]
-pub extern "C" fn shader_read(
+pub fn shader_read(
     src: &[u8],
     entries: &mut [u32],
     errors: &mut [u32],
@@ -26,48 +25,42 @@ pub extern "C" fn shader_read(
 }
 
 // Reads a define body: its tree as entries, up to the first newline.
-#[unsafe(no_mangle)]
-pub extern "C" fn shader_define_body(src: &[u8], entries: &mut [u32]) -> Counted
+pub fn shader_define_body(src: &[u8], entries: &mut [u32]) -> Counted
     ensures { ReadsDefineBody src.now (length entries.old) result entries.new }
 {
     reading::define_body(src, entries)
 }
 
 // Lists the tokens of a source: kind, start and end of each, angle strings never expected.
-#[unsafe(no_mangle)]
-pub extern "C" fn shader_tokens(src: &[u8], tokens: &mut [u32]) -> Counted
+pub fn shader_tokens(src: &[u8], tokens: &mut [u32]) -> Counted
     ensures { Fills (listing_tokens src.now (length tokens.old)) result tokens.new }
 {
     tokens::list(src, tokens)
 }
 
 // Builds the line table of a source.
-#[unsafe(no_mangle)]
-pub extern "C" fn shader_line_table(src: &[u8], lines: &mut [u32]) -> Counted
+pub fn shader_line_table(src: &[u8], lines: &mut [u32]) -> Counted
     ensures { Fills (building_lines src.now (length lines.old)) result lines.new }
 {
     line_map::build(src, lines)
 }
 
 // Unescapes a text.
-#[unsafe(no_mangle)]
-pub extern "C" fn shader_unescape(text: &[u8], output: &mut [u8]) -> Counted
+pub fn shader_unescape(text: &[u8], output: &mut [u8]) -> Counted
     ensures { Fills (unescaping text.now (length output.old)) result output.new }
 {
     unescaped::unescape(text, output)
 }
 
 // Looks an offset up in a line table.
-#[unsafe(no_mangle)]
-pub extern "C" fn shader_lookup(lines: &[u32], offset: u32) -> Place
+pub fn shader_lookup(lines: &[u32], offset: u32) -> Place
     ensures { LooksUp (looking_up lines.now offset) result }
 {
     line_map::get_line_and_col(lines, offset)
 }
 
 // Pastes two kinds.
-#[unsafe(no_mangle)]
-pub extern "C" fn shader_paste(lhs: u32, rhs: u32) -> Pasted
+pub fn shader_paste(lhs: u32, rhs: u32) -> Pasted
     ensures { Pastes (pasting lhs rhs) result }
 {
     syntax_kind::paste::paste(lhs, rhs)

@@ -28,7 +28,7 @@ use Rattle.group.proofs.Lines.{silent, closed_at}
 use Rattle.syntax.specs.Item.{Ends, hash_front, hash_reader}
 
 -- What a reader reads in an open node, which is then shut.
-pub ends_by : {src : List ℕ} {p : Reader} {l : Line} {m : Stand} {t o e t' o' : List ℕ} {st st' : ParserRun} {k : ℕ} → l.node-kind ≡ some k → l.got ≡ p (unread_at src m)
+pub ends_by : {src : List ℕ} {p : Reader} {l : Line} {m : Stand} {t o e t' o' : List ℕ} {st st' : ParserRun} {k : ℕ} → l.node_kind ≡ some k → l.got ≡ p (unread_at src m)
     → Reads src p m (stand t o e st) → Moves (Shut k) t o st t' o' st' → Ends src l m (stand t' o' e st')
 ends_by {src} {l = l} {m = m} {t} {o} {e} {st = st} {k = k} n g x z =
     let u : Gives src l.got m (stand t o e st) = rw g x.gives in
@@ -48,7 +48,7 @@ unfolding hash_item ◌then◌ skip_trivia skip
 hash_shut n ts =
     let h : Got = (bump then skip_trivia) (after trivia ts) in
     let l : Line = control_line n relexed h.rest in
-    ap (λ w. record { tree = elim l.node-kind [ none ↦ w | some k ↦ node k w nil ]; errs = l.got.errs; rest = l.got.rest })
+    ap (λ w. record { tree = elim l.node_kind [ none ↦ w | some k ↦ node k w nil ]; errs = l.got.errs; rest = l.got.rest })
     (sym (▹-assoc (row (while trivia ts)) h.tree l.got.tree))
 
 front_errs : (ts : List Leaf) → (hash_front ts).errs ≡ []

@@ -69,7 +69,7 @@ module _ {src t o e : List ℕ} {st : ParserRun} {x : Seen} (s : x ≡ st.run.se
 -- A line whose node is of kind k, whatever its errors.
 ends_always : {src : List ℕ} {p : Reader} {l : Line} {m : Stand} {t o e t' o' : List ℕ} {st st' : ParserRun} {k : ℕ} → l ≡ lined (always k) (p (unread_at src m))
     → Reads src p m (stand t o e st) → Moves (Shut k) t o st t' o' st' → Ends src l m (stand t' o' e st')
-ends_always q y z = ends_by (ap (λ (l : Line). l.node-kind) q) (ap (λ (l : Line). l.got) q) y z
+ends_always q y z = ends_by (ap (λ (l : Line). l.node_kind) q) (ap (λ (l : Line). l.got) q) y z
 
 -- A line by the word that is found at its start.
 module _ {src classes : List ℕ} {u : Seen} (d : Worded src classes u) {w : ℕ} (f : Finds (leaf_seen src u).bytes w) where

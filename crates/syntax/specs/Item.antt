@@ -12,7 +12,7 @@ use Rattle.parser_run.specs.Reads.{Stand, writer_at, log_at, unread_at}
 -- From m, in an open node, to m', behind its end: the line l was read, and its kind is the node's.
 pub record Ends (src : List ℕ) (l : Line) (m m' : Stand) : Type 0 where
   pub kind : ℕ
-  pub kind_is : l.node-kind ≡ some kind
+  pub kind_is : l.node_kind ≡ some kind
   pub tree : m'.state.over ≡ false → writer_at m' ≡ step (Shut kind) (run (writer_at m) (events l.got.tree))
   pub errs : log_at m' ≡ adds (log_at m) l.got.errs
   pub rest : unread_at src m' ≡ l.got.rest

@@ -1,5 +1,5 @@
 // The kinds of tokens and nodes, by their numbers (`syntax_kind.rs`).
-#[derive(Drop)]
+#[derive(Clone, Copy)]
 pub struct Kind {
     pub number: u8,
 }

@@ -11,7 +11,7 @@ use text::refusal::Refusal;
 
 // The answer: the refusal number, 0 if none, and the kind.
 #[repr(C)]
-#[derive(Drop)]
+#[derive(Clone, Copy)]
 pub struct Pasted {
     pub refusal: u32,
     pub kind: u32,

@@ -1,4 +1,6 @@
 // Lent tables of numbers: cleared, and written as far as they go.
+#![tactic(auto)]
+
 pub mod row;
 
 ghost use Rattle.std.specs.Prelude.{◌≡◌, ◌-◌, length, replicate, set};

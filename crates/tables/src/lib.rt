@@ -9,7 +9,7 @@ use text::refusal::Refusal;
 
 // The answer of a reading: the refusal number, 0 if none, and how many entries, errors and lines it wrote.
 #[repr(C)]
-#[derive(Drop)]
+#[derive(Clone, Copy)]
 pub struct Reading {
     pub refusal: u32,
     pub entries: u32,
@@ -22,7 +22,7 @@ pub const ENTRY: usize = 5;
 
 // Where a reading ended: whether a body held too many ##, and the places behind the last entry, the last error and the last line; past the
 // table's end if they don't fit.
-#[derive(Drop)]
+#[derive(Clone, Copy)]
 pub struct Ends {
     pub over: bool,
     pub entries: usize,

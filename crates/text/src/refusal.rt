@@ -1,5 +1,5 @@
 // The refusal numbers (01, Req 01, Req 03), by the names of the definition.
-#[derive(Drop)]
+#[derive(Clone, Copy)]
 pub struct Refusal {
     pub number: u32,
 }

@@ -8,7 +8,7 @@ ghost use Rattle.text.specs.Utf8.{wants, next_wants, wanted_after, told, starts,
 use crate::stretch;
 
 // What is left of a source when whole characters are taken off its front.
-#[derive(Drop)]
+#[derive(Clone, Copy)]
 pub enum Left {
     // Nothing: it is UTF-8.
     Nothing,
@@ -19,7 +19,7 @@ pub enum Left {
 }
 
 // What is wanted next: any character, one to three tail bytes, or a second byte of a narrower range and then one or two tail bytes.
-#[derive(Drop)]
+#[derive(Clone, Copy)]
 enum State {
     Start,
     Tail1,
@@ -32,7 +32,7 @@ enum State {
 }
 
 // Where a byte leads.
-#[derive(Drop)]
+#[derive(Clone, Copy)]
 enum Next {
     To(State),
     Unwanted,

@@ -76,7 +76,7 @@ light_shut before t behind l a =
     let c : Forest = l.got.tree in
     let e = leaves_shut (before ++ (t ∷ behind)) (front before t behind) (leaves_front before t behind) l in
     let h : nodes (front before t behind c) ≡ nodes c = simp (nodes-▹, nodes_row) (omega arith) in
-    record { is = omega (arith, few_node l.node-kind (front before t behind c), a.is, simp length-append at (ap length e)) }
+    record { is = omega (arith, few_node l.node_kind (front before t behind c), a.is, simp length-append at (ap length e)) }
 
 module _ (n : ℕ) (again : List Leaf → List Leaf) where
   -- What follows a HASH: an unknown word adds most.

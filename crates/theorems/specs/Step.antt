@@ -1,5 +1,5 @@
 -- The tokens of a source one at a time: what a step of the lexer says of the row of tokens.
-use Rattle.std.specs.Prelude.{ℕ, ◌+◌, ◌≤◌, ◌<◌, suc, ◌≡◌, Bool, List, [], ◌∷◌, ◌++◌, map, length, drop}
+use Rattle.std.specs.Prelude.{ℕ, ◌+◌, ◌≤◌, ◌<◌, suc, ◌≡◌, Bool, List, ◌∷◌, ◌++◌, map, length, drop}
 use Rattle.std.proofs.Math.Option.{Option, none, some}
 use Rattle.definition.specs.Runs.{Row, text, joined, runs}
 use Rattle.definition.specs.Glue.{Token, tokens, flat, glued, glues}

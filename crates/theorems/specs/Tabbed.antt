@@ -1,5 +1,5 @@
 -- Req 02: a source, and what is read of it, with a tab in place of each vertical tab.
-use Rattle.std.specs.Prelude.{ℕ, List, [], map, eqb}
+use Rattle.std.specs.Prelude.{ℕ, List, map, eqb}
 use Rattle.definition.specs.Text.{if◌then◌else◌, byte}
 use Rattle.definition.specs.Newline.{VT}
 use Rattle.definition.specs.Glue.{Token}

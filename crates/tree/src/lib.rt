@@ -1,4 +1,6 @@
 // The tree writer: rowan's builder as `parser.rs` uses it, into a lent table of entries.
+#![tactic(auto)]
+
 pub mod entry;
 pub mod level;
 pub mod tail;
@@ -11,7 +13,7 @@ use crate::level::OPEN_LEVELS;
 
 // Where the writer stands: how many numbers of the whole table lie before the part that it writes into, the place of the next entry in that
 // part, how many nodes are open, and the end of the last leaf.
-#[derive(Drop)]
+#[derive(Clone, Copy)]
 pub struct Pen {
     pub base: usize,
     pub n: usize,

@@ -1,4 +1,6 @@
 // Unescaping a text (unescaped.rs): each backslash is dropped with the one newline after it, and all else is kept.
+#![tactic(auto)]
+
 ghost use Rattle.std.specs.Prelude.{◌≡◌, length, drop};
 ghost use Rattle.definition.specs.Text.{same};
 ghost use Rattle.definition.specs.Unescaped.{unescaped};

@@ -1,6 +1,6 @@
 // Files of lines: where a line ends, and what it says.
 ghost use Rattle.std.specs.Prelude.{◌≤◌, ◌<◌, length};
-ghost use Rattle.io.specs.Counts.{IsPrefixLen};
+ghost use Rattle.records.specs.Input.{IsPrefixLen};
 
 // The end of the line at a place.
 pub fn end(s: &[u8], from: usize) -> usize

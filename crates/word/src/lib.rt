@@ -7,7 +7,7 @@ ghost use Rattle.word.specs.Word.{letters, spelt_as, Finds, directive_at};
 use syntax_kind::kind::Kind;
 
 // The places of the fourteen words in the table of directives, and what stands for an unknown word.
-#[derive(Drop)]
+#[derive(Clone, Copy)]
 pub struct Word {
     pub place: usize,
 }

@@ -5,7 +5,7 @@ use Rattle.condition.proofs.finish.Tie as tie
 
 pub finish_spec : {M : Type 1} → statement M
 finish_spec = tie.close (tie.spec
-    (λ c. finish_unread _ c.if1.true)
-    (λ c. finish_followed _ c.before.before.if1.false c.if2.true)
-    (λ c. finish_refused _ c.before.before.before.before.if1.false c.before.before.if2.false c.if3.true)
-    (λ c. finish_valued _ c.before.before.before.before.if1.false c.before.before.if2.false c.if3.false))
+    (λ c. finish_unread _ c.if-not-a.true)
+    (λ c. finish_followed _ c.if-not-a.false c.if-x-ne0.true)
+    (λ c. finish_refused _ c.if-not-a.false c.if-x-ne0.false c.if-v-ne-NONE.true)
+    (λ c. finish_valued _ c.if-not-a.false c.if-x-ne0.false c.if-v-ne-NONE.false))

@@ -8,9 +8,9 @@ use Rattle.condition.proofs.value.Tie as tie
 pub value_spec : {M : Type 1} → statement M
 value_spec = tie.close (tie.spec
     (λ c κs. search cases)
-    (λ c. values_refused _ _ _ _ c.before.refused.ensures c.if1.true)
+    (λ c. values_refused _ _ _ _ c.refused-refused.ensures c.if-refused-ne-NONE.true)
     (λ c κs. search cases)
-    (λ c κs. (c.before.class_table.ensures, source_length c.before.before.before.before.before.before.before.args.src.now _ c.before.before.before.refused.ensures c.before.before.if1.false))
-    (λ c κs. record { table = c.before.before.before.class_table.ensures; short = source_length c.before.before.before.before.before.before.before.before.before.args.src.now _ c.before.before.before.before.before.refused.ensures c.before.before.before.before.if1.false; stands = c.before.first.ensures.stands })
+    (λ c κs. (c.class_table-classes.ensures, source_length c.args.src.now _ c.refused-refused.ensures c.if-refused-ne-NONE.false))
+    (λ c κs. record { table = c.class_table-classes.ensures; short = source_length c.args.src.now _ c.refused-refused.ensures c.if-refused-ne-NONE.false; stands = c.first-x.ensures.stands })
     (λ c κs. search cases)
-    (λ c. values_read _ _ _ _ c.before.before.before.before.before.before.before.refused.ensures c.before.before.before.before.before.before.if1.false _ c.before.before.before.first.ensures _ c.before.expression.ensures _ c.finish.ensures))
+    (λ c. values_read _ _ _ _ c.refused-refused.ensures c.if-refused-ne-NONE.false _ c.first-x.ensures _ c.expression.ensures _ c.finish.ensures))

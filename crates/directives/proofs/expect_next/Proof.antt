@@ -8,7 +8,7 @@ use Rattle.directives.proofs.expect_next.Tie as tie
 pub expect_next_spec : {M : Type 1} → statement M
 expect_next_spec = tie.close (tie.spec
     (λ c κs. search rules)
-    (λ c κs. (ready_took c.before.before.before.before.before.before.before.before.before.before.requires.0 c.before.before.before.before.before.skip_trivia.ensures, c.before.before.before.before.before.before.before.before.before.before.requires.1))
+    (λ c κs. (ready_took c.before.before.before.before.before.before.before.before.before.before.requires.0 c.skip_trivia-a.ensures, c.before.before.before.before.before.before.before.before.before.before.requires.1))
     (λ c. search rules)
     (λ c. search rules)
-    (λ c. reads_then (c.before.before.before.before.before.before.before.before.before.before.skip_trivia.ensures.reads _ _) c.before.before.before.before.expect_one.ensures))
+    (λ c. reads_then (c.skip_trivia-a.ensures.reads _ _) c.expect_one.ensures))

@@ -10,8 +10,8 @@ pub expect_node_spec : {M : Type 1} → statement M
 expect_node_spec = tie.close (tie.spec
     (λ c κs. search rules)
     (λ c κs. search rules)
-    (λ c κs. (ready_moved (ready_took c.before.before.before.before.before.before.before.before.before.before.before.before.before.before.before.requires.0 c.before.before.before.before.before.before.before.before.before.before.skip_trivia.ensures) c.before.before.before.before.before.start-node.ensures, c.before.before.before.before.before.before.before.before.before.before.before.before.before.before.before.requires.1.0))
+    (λ c κs. (ready_moved (ready_took c.before.before.before.before.before.before.before.before.before.before.before.before.before.before.before.requires.0 c.skip_trivia-a.ensures) c.start_node-b.ensures, c.before.before.before.before.before.before.before.before.before.before.before.before.before.before.before.requires.1.0))
     (λ c κs. search rules)
-    (λ c. omega (arith, c.before.before.before.before.before.before.before.before.before.before.before.before.before.before.before.before.before.before.before.table.given))
+    (λ c. omega (arith, c.table-1.given))
     (λ c. search rules)
-    (λ c. reads_then (c.before.before.before.before.before.before.before.before.before.before.before.before.before.before.before.before.before.before.before.before.skip_trivia.ensures.reads _ _) (reads_wrap c.before.before.before.before.before.before.before.before.before.before.before.before.before.before.before.before.before.before.before.before.before.before.before.before.before.requires.1.1 c.before.before.before.before.before.before.before.before.before.before.before.before.before.before.before.start-node.ensures c.before.before.before.before.before.before.before.before.before.expect_one.ensures c.before.before.finish-node.ensures)))
+    (λ c. reads_then (c.skip_trivia-a.ensures.reads _ _) (reads_wrap c.before.before.before.before.before.before.before.before.before.before.before.before.before.before.before.before.before.before.before.before.before.before.before.before.before.requires.1.1 c.start_node-b.ensures c.expect_one-c.ensures c.finish_node.ensures)))

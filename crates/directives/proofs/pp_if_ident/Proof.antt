@@ -10,4 +10,4 @@ pp_if_ident_spec = tie.close (tie.spec
     (λ c κs. search rules)
     (λ c. search rules)
     (λ c. search rules)
-    (λ c. c.before.before.before.before.expect_node.ensures))
+    (λ c. c.expect_node.ensures))

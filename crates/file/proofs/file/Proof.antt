@@ -10,10 +10,10 @@ use Rattle.file.proofs.Filing.{Filing, filing_start, filing_more, filing_fewer, 
 use Rattle.file.proofs.file.Statement.{statement}
 use Rattle.file.proofs.file.Tie as tie
 
-abbrev invariant_loop : tie.invariant-loop
+abbrev invariant_loop : tie.invariant-loop-x
 invariant_loop src classes table₀ levels₀ errors₀ held₀ table levels errors held = Filing src (stand table₀ levels₀ errors₀ held₀) (stand table levels errors held)
 
-abbrev decreases_loop : tie.decreases-loop
+abbrev decreases_loop : tie.decreases-loop-x
 decreases_loop src classes table₀ levels₀ errors₀ held₀ table levels errors held = length (bytes (unread src held.run.seen))
 
 pub file_spec : {M : Type 1} → statement M
@@ -26,10 +26,10 @@ file_spec = tie.close (tie.spec
     (λ c. search rules)
     (λ c. search (filing_end, cases))
     (λ c κs. search rules)
-    (λ c κs. let k = c.before.before.before in filing_ready k.before.before.before.loop.invariant k.before.before.peek.ensures k.if1.false k.before.before.before.before.before.before.before.requires.0)
+    (λ c κs. filing_ready c.loop-x.invariant c.peek-x.ensures c.if-x-eq0.false c.requires.0)
     (λ c κs. search rules)
-    (λ c. let k = c.before.before.before.before.before.before.before in filing_fewer k.before.before.before.loop.invariant (filing_text k.before.before.before.loop.invariant k.before.before.peek.ensures k.if1.false c.before.before.before.before.before.before.is-text.ensures c.before.before.before.before.before.if2.true c.before.before.before.text-lines.ensures c.with-run.ensures))
-    (λ c. let k = c.before.before.before.before.before.before.before in filing_more k.before.before.before.loop.invariant (filing_text k.before.before.before.loop.invariant k.before.before.peek.ensures k.if1.false c.before.before.before.before.before.before.is-text.ensures c.before.before.before.before.before.if2.true c.before.before.before.text-lines.ensures c.with-run.ensures) (omega arith) (omega arith))
-    (λ c κs. let k = c.before.before.before.before.before in filing_item k.before.before.before.loop.invariant k.before.before.peek.ensures k.if1.false k.before.before.before.before.before.before.before.requires.0)
-    (λ c. filing_fewer c.before.before.before.before.before.before.before.before.before.before.before.before.before.loop.invariant c.before.before.before.before.item.ensures)
-    (λ c. filing_more c.before.before.before.before.before.before.before.before.before.before.before.before.before.loop.invariant c.before.before.before.before.item.ensures (omega arith) (omega arith)))
+    (λ c. filing_fewer c.loop-x.invariant (filing_text c.loop-x.invariant c.peek-x.ensures c.if-x-eq0.false c.is_text.ensures c.if-is_text.true c.text_lines-run.ensures c.with_run-held.ensures))
+    (λ c. filing_more c.loop-x.invariant (filing_text c.loop-x.invariant c.peek-x.ensures c.if-x-eq0.false c.is_text.ensures c.if-is_text.true c.text_lines-run.ensures c.with_run-held.ensures) (omega arith) (omega arith))
+    (λ c κs. filing_item c.loop-x.invariant c.peek-x.ensures c.if-x-eq0.false c.requires.0)
+    (λ c. filing_fewer c.loop-x.invariant c.item-held.ensures)
+    (λ c. filing_more c.loop-x.invariant c.item-held.ensures (omega arith) (omega arith)))

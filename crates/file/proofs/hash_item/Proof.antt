@@ -11,20 +11,16 @@ hash_item_spec = tie.close (tie.spec
     (λ c κs. search rules)
     (λ c κs. search rules)
     (λ c κs. search rules)
-    (λ c. omega (arith, c.before.before.before.start.ensures, c.before.before.before.before.before.before.before.before.before.well-formed.1.1.0))
+    (λ c. omega (arith, c.start-from.ensures, c.well_formed.1.1.0))
     (λ c. search rules)
     (λ c. search rules)
     (λ c. search rules)
-    (λ c κs.
-    let k = c.before.before.before.before.before.before.before.before.before.before.before.before in
-    hashed_front k.requires.0 k.args.state c.before.before.before.before.run_of.ensures c.before.before.before.with_run.ensures)
+    (λ c κs. hashed_front c.requires.0 c.args.state c.run_of.ensures c.with_run-front.ensures)
     (λ c κs. search rules)
     (λ c κs. search rules)
     (λ c κs. search rules)
     (λ c. search rules)
     (λ c. search rules)
     (λ c.
-    let p = c.before.before.before.before.before.before.before.before.before.before.before.before.before.before.before.before.before.before.before.before.before.requires in
-    let k = c.before.before.before.before.before.before.before.before.before.before.before.before in
-    hash_tail p.0 p.1 k.before.before.before.start.ensures k.before.before.at_front.ensures k.before.run_of.ensures k.with_run.ensures
-    c.before.before.before.before.before.before.before.before.if-section-or-control-line.ensures c.before.before.rejoin.ensures c.before.run-of2.ensures c.with-run2.ensures))
+    hash_tail c.requires.0 c.requires.1 c.start-from.ensures c.at_front.ensures c.run_of.ensures c.with_run-front.ensures
+    c.if_section_or_control_line-r.ensures c.rejoin-back.ensures c.run_of-2.ensures c.with_run.ensures))

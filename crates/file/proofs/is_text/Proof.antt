@@ -5,4 +5,4 @@ use Rattle.file.proofs.is_text.Statement.{statement}
 use Rattle.file.proofs.is_text.Tie as tie
 
 pub is_text_spec : {M : Type 1} → statement M
-is_text_spec = tie.close (tie.spec (λ c κs. search rules) (λ c. rw (sym c.before.is-trivia.ensures ∙ c.if1.true)) (λ c. rw (sym c.before.is-trivia.ensures ∙ c.if1.false)))
+is_text_spec = tie.close (tie.spec (λ c κs. search rules) (λ c. rw (sym c.is_trivia.ensures ∙ c.if-is_trivia.true)) (λ c. rw (sym c.is_trivia.ensures ∙ c.if-is_trivia.false)))

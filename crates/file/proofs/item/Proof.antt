@@ -12,24 +12,19 @@ item_spec = tie.close (tie.spec
     (λ c. search rules)
     (λ c. search rules)
     (λ c.
-    let k = c.before.before.before.before.before.before.before.before.before.before.before in
-    advance_hash (record { reading = k.before.before.before.before.before.requires.0; passes = k.buffer-trivia.ensures; hash = c.before.before.before.before.before.before.before.before.if1.true })
-    c.before.before.before.before.hash_item.ensures)
+    advance_hash (record { reading = c.requires.0; passes = c.buffer_trivia-before.ensures; hash = c.if-x-eq-HASH.true })
+    c.hash_item.ensures)
     (λ c κs. search rules)
     (λ c κs. search rules)
     (λ c κs. search rules)
     (λ c. search rules)
     (λ c.
-    let k = c.before.before.before.before.before.before.before.before.before.before.before in
-    let p = k.before.before.before.before.before.requires in
-    advance_end p.0 k.buffer-trivia.ensures c.before.before.before.before.before.before.eat-trivia.ensures c.before.before.before.run_of.ensures p.1.1 c.before.if2.true c.with-run.ensures)
+    let p = c.requires in
+    advance_end p.0 c.buffer_trivia-before.ensures c.eat_trivia-pen.ensures c.run_of-behind.ensures p.1.1 c.if-x-eq0.true c.with_run.ensures)
     (λ c κs.
-    let k = c.before.before.before.before.before.before.before.before.before.before.before in
-    ready_behind k.buffer-trivia.ensures k.before.before.before.before.before.requires.0 c.before.if2.false c.before.before.before.run_of.ensures)
+    ready_behind c.buffer_trivia-before.ensures c.requires.0 c.if-x-eq0.false c.run_of-behind.ensures)
     (λ c κs. search rules)
     (λ c. search rules)
     (λ c.
-    let j = c.before.before.before.before in
-    let k = j.before.before.before.before.before.before.before.before.before.before.before in
-    advance_text k.before.before.before.before.before.requires.0 k.buffer-trivia.ensures j.before.before.before.before.before.before.eat-trivia.ensures j.before.before.before.run_of.ensures j.before.if2.false
-    j.before.before.before.before.before.before.before.before.if1.false c.before.before.before.text-lines.ensures c.with-run2.ensures))
+    advance_text c.requires.0 c.buffer_trivia-before.ensures c.eat_trivia-pen.ensures c.run_of-behind.ensures c.if-x-eq0.false
+    c.if-x-eq-HASH.false c.text_lines-last.ensures c.with_run-2.ensures))

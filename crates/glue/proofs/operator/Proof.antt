@@ -14,10 +14,10 @@ use Rattle.glue.proofs.operator.Tie as tie
 ended : (s : List ℕ) (start : ℕ) (f : Bool) (k e : ℕ) (g : Bool) → Operator s start f k e g → length s ≤ e → Stepped s start f k e g
 ended s start f k e g o h = glue_over s start f k e g o.gluing h
 
-abbrev invariant_loop : tie.invariant-loop
+abbrev invariant_loop : tie.invariant-loop-e
 invariant_loop src table start flag kind at angle k₀ e₀ k e = Operator src start flag k e angle
 
-abbrev decreases_loop : tie.decreases-loop
+abbrev decreases_loop : tie.decreases-loop-e
 decreases_loop src table start flag kind at angle k₀ e₀ k e = length src - e
 
 pub operator_spec : {M : Type 1} → statement M

@@ -7,10 +7,10 @@ use Rattle.group.proofs.Groups.{Counting, counting_start, counting_few, counting
 use Rattle.group.proofs.closes.Statement.{statement}
 use Rattle.group.proofs.closes.Tie as tie
 
-abbrev invariant_loop : tie.invariant-loop
+abbrev invariant_loop : tie.invariant-loop-y
 invariant_loop src classes y₀ count₀ y count = Counting src (leaf_seen src y₀) (group_at src y₀ (unread src y₀)) count y
 
-abbrev decreases_loop : tie.decreases-loop
+abbrev decreases_loop : tie.decreases-loop-y
 decreases_loop src classes y₀ count₀ y count = length (unread src y)
 
 pub closes_spec : {M : Type 1} → statement M

@@ -7,10 +7,10 @@ use Rattle.group.proofs.Groups.{counting_few, counting_fewer, Grouping, grouping
 use Rattle.group.proofs.pp_rs_ident.Statement.{statement}
 use Rattle.group.proofs.pp_rs_ident.Tie as tie
 
-abbrev invariant_loop : tie.invariant-loop
+abbrev invariant_loop : tie.invariant-loop-x
 invariant_loop src classes table₀ pen₀ x₀ count₀ table pen x count = Grouping src (leaf_seen src x₀) (group_at src x₀ (unread src x₀)) table₀ pen₀ count x table pen
 
-abbrev decreases_loop : tie.decreases-loop
+abbrev decreases_loop : tie.decreases-loop-x
 decreases_loop src classes table₀ pen₀ x₀ count₀ table pen x count = length (unread src x)
 
 pub pp_rs_ident_spec : {M : Type 1} → statement M

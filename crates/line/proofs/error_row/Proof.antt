@@ -12,4 +12,4 @@ error_row_spec = tie.close (tie.spec
     (λ c κs. search cases)
     (λ c κs. search cases)
     (λ c. search cases)
-    (λ c. error_row c.before.before.before.before.before.before.before.before.before.before.before.before.before.before.before.before.before.requires.1 c.before.before.before.before.before.before.before.before.before.before.before.before.start-node.ensures c.before.before.before.before.before.before.before.before.skip-inline.ensures c.before.before.before.before.before.with_run.ensures c.before.before.finish-node.ensures))
+    (λ c. error_row c.before.before.before.before.before.before.before.before.before.before.before.before.before.before.before.before.before.requires.1 c.start_node-a.ensures c.skip_inline-run.ensures c.with_run-b.ensures c.finish_node.ensures))

@@ -8,10 +8,10 @@ use Rattle.line_map.proofs.Filling.{Filling, start, other_over, another_over, an
 use Rattle.line_map.proofs.fill.Statement.{statement}
 use Rattle.line_map.proofs.fill.Tie as tie
 
-abbrev invariant_loop : tie.invariant-loop
+abbrev invariant_loop : tie.invariant-loop-i
 invariant_loop src lines₀ n₀ i₀ lines n i = Filling src lines₀ lines n i
 
-abbrev decreases_loop : tie.decreases-loop
+abbrev decreases_loop : tie.decreases-loop-i
 decreases_loop src lines₀ n₀ i₀ lines n i = length src - i
 
 pub fill_spec : {M : Type 1} → statement M
@@ -31,13 +31,13 @@ fill_spec =
     (λ c κs. search cases)
     (λ c. search cases)
     (λ c.
-    let known = c.before.before.before.before.before.before.before.before.before.before.before.shared-slice-known.given in
-    ⊎_elim (λ w. search (another_over, known, cases)) (λ w. search (other_over, known, cases)) c.before.if2.branch)
+    let known = c.shared_slice_known-1.given in
+    ⊎_elim (λ w. search (another_over, known, cases)) (λ w. search (other_over, known, cases)) c.if-w-eq1.branch-raw)
     (λ c. search (further, cases))
     (λ c. search (offset_fits, cases))
     (λ c κs. search cases)
     (λ c. search cases)
     (λ c. search (nearer, cases))
-    (λ c. another_two _ _ _ _ _ c.before.before.before.before.before.before.before.loop.invariant _ (search cases) (search cases) (search cases) _ (search cases))
-    (λ c. omega (arith, kept _ _ _ _ _ c.before.loop.invariant))
+    (λ c. another_two _ _ _ _ _ c.loop-i.invariant _ (search cases) (search cases) (search cases) _ (search cases))
+    (λ c. omega (arith, kept _ _ _ _ _ c.loop-i.invariant))
     (λ c. search (done, cases)))

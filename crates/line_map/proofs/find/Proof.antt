@@ -7,10 +7,10 @@ use Rattle.line_map.proofs.Finding.{Finding, empty, not_zero, start, falls, furt
 use Rattle.line_map.proofs.find.Statement.{statement}
 use Rattle.line_map.proofs.find.Tie as tie
 
-abbrev invariant_loop : tie.invariant-loop
+abbrev invariant_loop : tie.invariant-loop-i
 invariant_loop lines offset line₀ column₀ last₀ i₀ line column last i = Finding lines offset line column last i
 
-abbrev decreases_loop : tie.decreases-loop
+abbrev decreases_loop : tie.decreases-loop-i
 decreases_loop lines offset line₀ column₀ last₀ i₀ line column last i = length lines - i
 
 pub find_spec : {M : Type 1} → statement M
@@ -29,5 +29,5 @@ find_spec =
     (λ c. search cases)
     (λ c. search cases)
     (λ c. search cases)
-    (λ c. ⊎_elim (λ w. search (further, cases)) (λ w. search (behind, cases)) c.if4.branch)
+    (λ c. ⊎_elim (λ w. search (further, cases)) (λ w. search (behind, cases)) c.if-start-offset.branch-raw)
     (λ c. search (done, cases)))

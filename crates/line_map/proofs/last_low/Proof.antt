@@ -8,10 +8,10 @@ use Rattle.line_map.proofs.Quiets.{quiet_more}
 use Rattle.line_map.proofs.last_low.Statement.{statement}
 use Rattle.line_map.proofs.last_low.Tie as tie
 
-abbrev invariant_loop : tie.invariant-loop
+abbrev invariant_loop : tie.invariant-loop-i
 invariant_loop src at i₀ i = Quiet src at i
 
-abbrev decreases_loop : tie.decreases-loop
+abbrev decreases_loop : tie.decreases-loop-i
 decreases_loop src at i₀ i = length src - i
 
 pub last_low_spec : {M : Type 1} → statement M

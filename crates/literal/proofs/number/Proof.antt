@@ -7,10 +7,10 @@ use Rattle.literal.proofs.Digits.{Reading, no_digit, start, done, no_overflow, c
 use Rattle.literal.proofs.number.Statement.{statement}
 use Rattle.literal.proofs.number.Tie as tie
 
-abbrev invariant_loop : tie.invariant-loop
+abbrev invariant_loop : tie.invariant-loop-i
 invariant_loop text at base i₀ n₀ i n = Reading text at base i n
 
-abbrev decreases_loop : tie.decreases-loop
+abbrev decreases_loop : tie.decreases-loop-i
 decreases_loop text at base i₀ n₀ i n = length text - i
 
 pub number_spec : {M : Type 1} → statement M
@@ -36,4 +36,4 @@ number_spec =
     (λ c. search (more, cases))
     (λ c. search (casts, cases))
     (λ c κs. search cases)
-    (λ c. let k = c.before.before.loop.invariant in done _ _ _ _ _ k _ (rw (to_z-of_z (casts _ _ _ _ _ k)) at c.fit.ensures) c.before.loop-test.false))
+    (λ c. let k = c.loop-i.invariant in done _ _ _ _ _ k _ (rw (to_z-of_z (casts _ _ _ _ _ k)) at c.fit.ensures) c.loop-i-test.false))

@@ -11,4 +11,4 @@ is_listed_spec =
     (tie.spec
     (λ c κs. search cases)
     (λ c κs. search cases)
-    (λ c. c.truth.ensures ∙ listed_is _ _ _ _ c.before.find.ensures))
+    (λ c. c.truth.ensures ∙ listed_is _ _ _ _ c.find-i.ensures))

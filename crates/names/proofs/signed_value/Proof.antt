@@ -29,4 +29,4 @@ signed_value_spec =
     (λ c. search cases)
     (λ c. bits_signed _)
     (λ c. search cases)
-    (λ c. let e : 4294967295 - (4294967295 - c.before.args.bits) ≡ c.before.args.bits = omega arith in ap (to_z w32) e ∙ bits_signed _))
+    (λ c. let e : 4294967295 - (4294967295 - c.args.bits) ≡ c.args.bits = omega arith in ap (to_z w32) e ∙ bits_signed _))

@@ -6,4 +6,4 @@ use Rattle.parser.proofs.is_inline.Statement.{statement}
 use Rattle.parser.proofs.is_inline.Tie as tie
 
 pub is_inline_spec : {M : Type 1} → statement M
-is_inline_spec = tie.close (tie.spec (λ c κs. search cases) (λ c. ap not c.ends-row.ensures))
+is_inline_spec = tie.close (tie.spec (λ c κs. search cases) (λ c. ap not c.ends_row.ensures))

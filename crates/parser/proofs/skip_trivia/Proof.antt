@@ -7,10 +7,10 @@ use Rattle.parser.proofs.Taking.{trivia_tested, Writing, write_start, write_long
 use Rattle.parser.proofs.skip_trivia.Statement.{statement}
 use Rattle.parser.proofs.skip_trivia.Tie as tie
 
-abbrev invariant_loop : tie.invariant-loop
+abbrev invariant_loop : tie.invariant-loop-table
 invariant_loop src classes table₀ held₀ table held = Writing src trivia table₀ held₀.pen held₀.seen table held.pen held.seen
 
-abbrev decreases_loop : tie.decreases-loop
+abbrev decreases_loop : tie.decreases-loop-table
 decreases_loop src classes table₀ held₀ table held = length (unread src held.seen)
 
 pub skip_trivia_spec : {M : Type 1} → statement M

@@ -6,10 +6,10 @@ use Rattle.records.proofs.Comparing.{Comparing, compare_none, compare_on, compar
 use Rattle.records.proofs.compare.Statement.{statement}
 use Rattle.records.proofs.compare.Tie as tie
 
-abbrev invariant_loop : tie.invariant-loop
+abbrev invariant_loop : tie.invariant-loop-at
 invariant_loop call s records₀ at₀ records at = Comparing call s records at
 
-abbrev decreases_loop : tie.decreases-loop
+abbrev decreases_loop : tie.decreases-loop-at
 decreases_loop call s records₀ at₀ records at = length s - at
 
 pub compare_spec : {M : Type 1} → statement M

@@ -7,10 +7,10 @@ use Rattle.table.proofs.Tables.{Clearing, clear_none, clear_more, clear_all}
 use Rattle.table.proofs.clear_bytes.Statement.{statement}
 use Rattle.table.proofs.clear_bytes.Tie as tie
 
-abbrev invariant_loop : tie.invariant-loop
+abbrev invariant_loop : tie.invariant-loop-i
 invariant_loop t₀ i₀ t i = Clearing t₀ t i
 
-abbrev decreases_loop : tie.decreases-loop
+abbrev decreases_loop : tie.decreases-loop-i
 decreases_loop t₀ i₀ t i = length t - i
 
 pub clear_bytes_spec : {M : Type 1} → statement M

@@ -9,7 +9,7 @@ leaf_at_spec = tie.close (tie.spec
     (λ c. search cases)
     (λ c κs. search cases)
     (λ c κs. search cases)
-    (λ c. quick_fits _ _ c.before.before.before.quick.result c.before.before.before.quick.ensures (search cases) (search cases))
+    (λ c. quick_fits _ _ c.quick-q.result c.quick-q.ensures (search cases) (search cases))
     (λ c. search (seen_quick, cases))
     (λ c κs. search cases)
     (λ c. search (newline_sum, cases))

@@ -6,10 +6,10 @@ use Rattle.text_lines.proofs.Lining.{Toward, toward_start, toward_end, toward_pl
 use Rattle.text_lines.proofs.rest_of_lines.Statement.{statement}
 use Rattle.text_lines.proofs.rest_of_lines.Tie as tie
 
-abbrev invariant_loop : tie.invariant-loop
+abbrev invariant_loop : tie.invariant-loop-i
 invariant_loop src classes table₀ at angle held₀ i₀ flag₀ table held i flag = Toward src (leaves_from src at angle) table₀ held₀ i flag table held
 
-abbrev decreases_loop : tie.decreases-loop
+abbrev decreases_loop : tie.decreases-loop-i
 decreases_loop src classes table₀ at angle held₀ i₀ flag₀ table held i flag = length (leaves_from src i flag)
 
 pub rest_of_lines_spec : {M : Type 1} → statement M

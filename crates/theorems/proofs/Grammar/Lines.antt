@@ -65,6 +65,7 @@ module _ (n : ℕ) where
       go (some d) e (both x) =
           let f = none_pass (trivia t) (newline_leaf t) (lparen t) p in
           record { clear = rw (at_word t L d f.1 f.2 e) (clean_then bump (d.reads then tail t) clean_bump (x.to g)).clear }
+      go none e x = elim x [ ]
 
   -- And the other way round.
   pub line_clean : (L : List Leaf) {R : List Leaf} → peek trivia L ≡ false → Clean line L R → Group L R ⊎ Line L R
@@ -87,3 +88,5 @@ module _ (n : ℕ) where
       go false e false f (some r) g (some d) h (both x) =
           let b = bump_clean (d.reads then tail t) (record { clear = rw (at_word t L d e f h) at c.clear }) in
           inr (with_word (rw (p, e, f)) g (x.from b))
+      go false e false f none g (some d) h m = elim m [ ]
+      go false e false f (some r) g none h m = elim m [ ]

@@ -39,7 +39,7 @@ pub data NoBody : Option ℕ → Type 0 where
   of_kind : {k : ℕ} → body_kind k ≡ false → NoBody (some k)
 
 pub record LowLine (l : Line) : Type 0 where
-  pub kind : NoBody l.node-kind
+  pub kind : NoBody l.node_kind
   pub low : Low inner l.got.tree
 
 group_kind : (g : Got) → NoBody (group g).node_kind

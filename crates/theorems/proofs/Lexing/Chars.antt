@@ -9,7 +9,7 @@ use lib.Dec.{eqb, leb}
 use lib.ListN.{length, drop, length-append}
 use borrow.Author.Tests.{eqb-true, leb-true}
 use Rattle.definition.specs.Text.{if◌then◌else◌, among}
-use Rattle.definition.specs.Runs.{Run, Row, text, put, runs, grouped}
+use Rattle.definition.specs.Runs.{Run, Row, put, runs, grouped}
 use Rattle.definition.specs.Newline.{LF, CR, CRLF, char_more, chars}
 use Rattle.theorems.proofs.Lexing.Runs.{joined_runs, restart}
 

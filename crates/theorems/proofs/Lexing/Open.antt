@@ -10,7 +10,7 @@ use lib.Seq.{drop-cons}
 use Rattle.definition.specs.Text.{one_of, byte}
 use Rattle.definition.specs.SyntaxKind.{Kind}
 use Rattle.definition.specs.Newline.{newline, blank, char_more}
-use Rattle.definition.specs.Pre.{State, ident, single-comment, whitespace, backslash, digits, in-ident, in-comment, in_digits, more, kind_of}
+use Rattle.definition.specs.Pre.{State, ident, single_comment, whitespace, backslash, digits, in_ident, in_comment, in_digits, more, kind_of}
 use Rattle.definition.specs.Glue.{glued, glues}
 use Rattle.theorems.specs.Walk.{walk, name_kind}
 use Rattle.theorems.proofs.Lexing.Glues.{every, glued_none}
@@ -25,12 +25,12 @@ pub data Open : Type 0 where
 -- The states of such a token, cut where the last character is a backslash.
 pub data In : Open → State → Type 0 where
   word : In words ident
-  cut_word : In words (backslash in-ident)
+  cut_word : In words (backslash in_ident)
   number : (e d : Bool) → In numbers (digits e d)
   cut_number : (e d : Bool) → In numbers (backslash (in_digits e d))
   blanks_only : In blanks whitespace
-  comment : In comments single-comment
-  cut_comment : In comments (backslash in-comment)
+  comment : In comments single_comment
+  cut_comment : In comments (backslash in_comment)
 
 in_next : {o : Open} (q : State) (c : ℕ) → In o q → Next (In o) (more q c)
 unfolding more
@@ -124,9 +124,9 @@ comment_stop _ b comment e = go (newline b) (eqb b (byte "\\")) refl refl
   where
     go : (t u : Bool) → newline b ≡ t → eqb b (byte "\\") ≡ u → newline b ≡ true
     go true u h k = h
-    go false true h k = absurd (none-ne-some (backslash in-comment) (sym (rw (h, k) at e)))
-    go false false h k = absurd (none-ne-some single-comment (sym (rw (h, k) at e)))
-comment_stop _ b cut_comment e = absurd (none-ne-some single-comment (sym e))
+    go false true h k = absurd (none-ne-some (backslash in_comment) (sym (rw (h, k) at e)))
+    go false false h k = absurd (none-ne-some single_comment (sym (rw (h, k) at e)))
+comment_stop _ b cut_comment e = absurd (none-ne-some single_comment (sym e))
 
-pub comment_end : (c : ℕ) (bs : List ℕ) → Head (λ b. newline b ≡ true) (drop (walk single-comment c bs).long bs)
-comment_end c bs = open_stops (λ b. newline b ≡ true) comment_stop single-comment c bs comment
+pub comment_end : (c : ℕ) (bs : List ℕ) → Head (λ b. newline b ≡ true) (drop (walk single_comment c bs).long bs)
+comment_end c bs = open_stops (λ b. newline b ≡ true) comment_stop single_comment c bs comment

@@ -13,7 +13,7 @@ use borrow.Author.Tests.{eqb-true, eqb-false, ne_eqb, not-true}
 use Rattle.definition.specs.Text.{if◌then◌else◌, ascii, byte}
 use Rattle.definition.specs.SyntaxKind.{Kind}
 use Rattle.definition.specs.Newline.{newline, blank, char_more}
-use Rattle.definition.specs.Pre.{State, done, slash, ident, single-comment, quote-string, angle-string, digits, find, puncts, begin, flag, more, kind_of}
+use Rattle.definition.specs.Pre.{State, done, slash, ident, single_comment, quote_string, angle_string, digits, find, puncts, begin, flag, more, kind_of}
 use Rattle.definition.specs.Runs.{text}
 use Rattle.definition.specs.Glue.{Token}
 use Rattle.definition.specs.Tree.{Leaf, placed}
@@ -52,8 +52,8 @@ number = record { ends = λ c bs. open_kind (λ k. plain k ≡ true) (refl, refl
 
 -- strings, and tokens that have ended.
 data Closed : State → Type 0 where
-  quote : Closed quote-string
-  angle : Closed angle-string
+  quote : Closed quote_string
+  angle : Closed angle_string
   ended : (k : ℕ) → plain k ≡ true → Closed (done k)
 
 closed_next : (q : State) (c : ℕ) → Closed q → Next Closed (more q c)
@@ -140,9 +140,9 @@ module _ (bs : List ℕ) where
   unfolding more char_more kind_of
   slash_alone x n m = rw (walk_stop (byte "/") x bs slash refl (rw (ne_eqb x (byte "/") n, ne_eqb x (byte "*") m)))
 
-  slash_comment : walk slash (byte "/") (byte "/" ∷ bs) ≡ longer (walk single-comment (byte "/") bs)
+  slash_comment : walk slash (byte "/") (byte "/" ∷ bs) ≡ longer (walk single_comment (byte "/") bs)
   unfolding more char_more
-  slash_comment = walk_more (byte "/") (byte "/") bs slash single-comment refl refl
+  slash_comment = walk_more (byte "/") (byte "/") bs slash single_comment refl refl
 
 module _ (s : List ℕ) (at : ℕ) (f : Bool) (h : at < length s) (e : get_or s at 0 ≡ byte "/") where
   walk_is : walk_at s at f ≡ walk slash (byte "/") (drop (suc at) s)
@@ -152,10 +152,10 @@ module _ (s : List ℕ) (at : ℕ) (f : Bool) (h : at < length s) (e : get_or s 
   line_comment : (bs : List ℕ) → drop (suc at) s ≡ byte "/" ∷ bs → Text (leaves_from s at f)
   unfolding name_kind Kinds
   line_comment bs d =
-      let w : Walk = walk single-comment (byte "/") bs in
+      let w : Walk = walk single_comment (byte "/") bs in
       let stop : ℕ = at + suc (suc w.long) in
       let i : walk_at s at f ≡ longer w = walk_is ∙ ap (walk slash (byte "/")) d ∙ slash_comment bs in
-      let k : w.kind ≡ Kind.COMMENT = open_kind (λ k. k ≡ Kind.COMMENT) refl single-comment (byte "/") bs open_tokens.comment in
+      let k : w.kind ≡ Kind.COMMENT = open_kind (λ k. k ≡ Kind.COMMENT) refl single_comment (byte "/") bs open_tokens.comment in
       let p : PreStepped s at f Kind.COMMENT stop f = rw (i, k, e, flag_slash f) at (pre_at s at f h) in
       let m : suc at + suc w.long ≡ stop = omega arith in
       let r : drop stop s ≡ drop w.long bs = ap (λ n. drop n s) (sym m) ∙ sym (drop-drop (suc w.long) (suc at) s) ∙ ap (drop (suc w.long)) d in

@@ -9,7 +9,7 @@ use native.Mathlib.Omega.{arith}
 use Rattle.definition.specs.Runs.{Run, Row, joined, put, list, runs, grouped}
 use Rattle.definition.specs.Newline.{LF, CR, CRLF, char_more, chars}
 use Rattle.definition.specs.Unescaped.{unescaped}
-use Rattle.definition.specs.Pre.{State, Pre, done, slash, ident, single-comment, multi-comment, multi-comment-star, whitespace, quote-string, angle-string, backslash, digits, alone, in-ident, in-comment, in_digits, begin, flag, more, kind_of, pre_begin, pre_more, pres}
+use Rattle.definition.specs.Pre.{State, Pre, done, slash, ident, single_comment, multi_comment, multi_comment_star, whitespace, quote_string, angle_string, backslash, digits, alone, in_ident, in_comment, in_digits, begin, flag, more, kind_of, pre_begin, pre_more, pres}
 use Rattle.definition.specs.Glue.{flat, pre_kind}
 use Rattle.theorems.proofs.Lexing.Chars.{char_row, first_char, row_on, row_off, class_kept}
 use Rattle.theorems.specs.Walk.{Walk, longer, walk, name_kind, pre_tokens, pre_token}
@@ -24,15 +24,15 @@ unfolding more
 more_pair (done k) = (refl, refl)
 more_pair slash = (refl, refl)
 more_pair ident = (refl, refl)
-more_pair single-comment = (refl, refl)
-more_pair multi-comment = (refl, refl)
-more_pair multi-comment-star = (refl, refl)
+more_pair single_comment = (refl, refl)
+more_pair multi_comment = (refl, refl)
+more_pair multi_comment_star = (refl, refl)
 more_pair whitespace = (refl, refl)
-more_pair quote-string = (refl, refl)
-more_pair angle-string = (refl, refl)
+more_pair quote_string = (refl, refl)
+more_pair angle_string = (refl, refl)
 more_pair (backslash alone) = (refl, refl)
-more_pair (backslash in-ident) = (refl, refl)
-more_pair (backslash in-comment) = (refl, refl)
+more_pair (backslash in_ident) = (refl, refl)
+more_pair (backslash in_comment) = (refl, refl)
 more_pair (backslash (in_digits e d)) = (refl, refl)
 more_pair (digits e d) = (refl, refl)
 

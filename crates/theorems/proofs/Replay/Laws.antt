@@ -60,7 +60,7 @@ abbrev pub lined : (List Err → Option ℕ) → Got → Line
 lined k g = record { node_kind = k g.errs; got = g }
 
 abbrev pub line_leaving : Line → List Leaf → Line
-line_leaving l us = record { node_kind = l.node-kind; got = leaving l.got us }
+line_leaving l us = record { node_kind = l.node_kind; got = leaving l.got us }
 
 pub record RetoldLine (m : List Leaf → Line) (l : Line) (ts : List Leaf) : Type 0 where
   pub tiles : Tiles l.got ts
@@ -80,7 +80,7 @@ retold_lined m k q g ts e r =
 abbrev pub shut : (Forest → Forest) → Line → Got
 shut f l =
     record {
-      tree = elim l.node-kind [ none ↦ f l.got.tree | some k ↦ node k (f l.got.tree) nil ];
+      tree = elim l.node_kind [ none ↦ f l.got.tree | some k ↦ node k (f l.got.tree) nil ];
       errs = l.got.errs;
       rest = l.got.rest;
     }
@@ -88,7 +88,7 @@ shut f l =
 module _ (before : List Leaf) (f : Forest → Forest) (e : (c : Forest) → leaves (f c) ≡ before ++ leaves c) where
   pub leaves_shut : (l : Line) → leaves (shut f l).tree ≡ before ++ leaves l.got.tree
   unfolding leaves
-  leaves_shut l = go l.node-kind
+  leaves_shut l = go l.node_kind
     where
       go : (o : Option ℕ) → leaves (elim o [ none ↦ f l.got.tree | some k ↦ node k (f l.got.tree) nil ]) ≡ before ++ leaves l.got.tree
       go none = e l.got.tree

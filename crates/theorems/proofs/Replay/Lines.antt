@@ -20,7 +20,7 @@ use Rattle.theorems.proofs.Replay.Laws.{Retold, retold_steady, retold_push, line
 -- Two directives of one word and node, of which the second reads again what the first has read.
 record Kin (c d : Directive) : Type 0 where
   word : c.spelt ≡ d.spelt
-  kind : c.node-kind ≡ d.node_kind
+  kind : c.node_kind ≡ d.node_kind
   tiles : Tiled c.reads
   again : (ts : List Leaf) → Again d.reads (c.reads ts)
 

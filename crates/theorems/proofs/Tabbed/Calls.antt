@@ -8,7 +8,7 @@ use mathlib.Core.Option.{Option, none, some, none-ne-some, some-injective}
 use lib.Dec.{eqb, leb, ltb}
 use lib.ListN.{length, length-map, replicate}
 use borrow.Author.Tests.{leb-true, lt-leb}
-use Rattle.definition.specs.Text.{if◌then◌else◌, byte}
+use Rattle.definition.specs.Text.{if◌then◌else◌}
 use Rattle.definition.specs.SyntaxKind.{Kind}
 use Rattle.definition.specs.Utf8.{Span, CharForm, within, char_forms, follow, left, is_nothing, is_cut, utf8, ends_inside}
 use Rattle.definition.specs.Newline.{VT}

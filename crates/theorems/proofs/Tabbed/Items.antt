@@ -1,5 +1,5 @@
 -- Directives, items and whole sources with tabs in place of vertical tabs.
-use Prim.Native.Nat.{ℕ, zero, suc, ◌+◌}
+use Prim.Native.Nat.{ℕ, zero, suc}
 use mathlib.Core.Path.{◌≡◌, refl, ap, ap₂, sym, ◌∙◌}
 use mathlib.Core.Bool.{Bool, true, false}
 use mathlib.Core.List.{List, [], ◌∷◌, ◌++◌, map-append}
@@ -78,11 +78,11 @@ unfolding unknown
 unknown_tabbed w ts = rw (stop_tabbed w, finish_tabbed (λ t end. []) (λ t end. refl) ts) refl
 
 abbrev tabbed_line : Line → Line
-tabbed_line l = record { node_kind = l.node-kind; got = tabbed_got l.got }
+tabbed_line l = record { node_kind = l.node_kind; got = tabbed_got l.got }
 
 shut_tabbed : (a b : Forest) (l : Line) → shut (λ c. tabbed_forest a ▹ tabbed_forest b ▹ c) (tabbed_line l) ≡ tabbed_got (shut (λ c. a ▹ b ▹ c) l)
 unfolding tabbed_forest
-shut_tabbed a b l = go l.node-kind
+shut_tabbed a b l = go l.node_kind
   where
     c : Forest
     c = l.got.tree

@@ -7,13 +7,13 @@ use mathlib.Core.Option.{Option, none, some}
 use lib.Dec.{eqb}
 use lib.ListN.{length, length-map}
 use borrow.Author.Tests.{ne_eqb, eqb-true, eqb-false}
-use Rattle.definition.specs.Text.{if◌then◌else◌, among, one_of, byte, ascii, same}
+use Rattle.definition.specs.Text.{if◌then◌else◌, among, one_of, ascii, same}
 use Rattle.definition.specs.SyntaxKind.{Kind}
 use Rattle.definition.specs.Runs.{Run, text, joined, grouped}
 use Rattle.definition.specs.Newline.{LF, CR, VT, char_more, chars, newline}
 use Rattle.definition.specs.LineMap.{newline_ends, line_starts}
 use Rattle.definition.specs.Unescaped.{unescaped_chars, unescaped}
-use Rattle.definition.specs.Pre.{State, done, slash, ident, single-comment, multi-comment, multi-comment-star, whitespace, quote-string, angle-string, backslash as behind_backslash, digits, alone, in-ident, in-comment, in_digits, begin, flag, more, Pre, pre_begin, pre_more, pres, kind_of}
+use Rattle.definition.specs.Pre.{State, done, slash, ident, single_comment, multi_comment, multi_comment_star, whitespace, quote_string, angle_string, backslash as behind_backslash, digits, alone, in_ident, in_comment, in_digits, begin, flag, more, Pre, pre_begin, pre_more, pres, kind_of}
 use Rattle.definition.specs.Glue.{Token, tokens, flat, defined, pre_kind, token_numbers}
 use Rattle.definition.specs.Tree.{Leaf, placed}
 use Rattle.theorems.specs.Step.{glue_begin, glue_more}
@@ -62,15 +62,15 @@ unfolding more
 more_tab (done k) = refl
 more_tab slash = refl
 more_tab ident = refl
-more_tab single-comment = refl
-more_tab multi-comment = refl
-more_tab multi-comment-star = refl
+more_tab single_comment = refl
+more_tab multi_comment = refl
+more_tab multi_comment_star = refl
 more_tab whitespace = refl
-more_tab quote-string = refl
-more_tab angle-string = refl
+more_tab quote_string = refl
+more_tab angle_string = refl
 more_tab (behind_backslash alone) = refl
-more_tab (behind_backslash in-ident) = refl
-more_tab (behind_backslash in-comment) = refl
+more_tab (behind_backslash in_ident) = refl
+more_tab (behind_backslash in_comment) = refl
 more_tab (behind_backslash (in_digits e d)) = refl
 more_tab (digits e d) = rw (and-false (not d), and-false e)
 

@@ -6,10 +6,10 @@ use Rattle.tokens.proofs.Listing.{Listing, start, quick_nearer, quick_fits, quic
 use Rattle.tokens.proofs.fill.Statement.{statement}
 use Rattle.tokens.proofs.fill.Tie as tie
 
-abbrev invariant_loop : tie.invariant-loop
+abbrev invariant_loop : tie.invariant-loop-at
 invariant_loop src t₀ classes angle₀ at₀ n₀ t angle at n = Listing src t₀ t angle at n
 
-abbrev decreases_loop : tie.decreases-loop
+abbrev decreases_loop : tie.decreases-loop-at
 decreases_loop src t₀ classes angle₀ at₀ n₀ t angle at n = length src - at
 
 pub fill_spec : {M : Type 1} → statement M

@@ -7,10 +7,10 @@ use Rattle.unescaped.proofs.Comparing.{Comparing, start, done, passed, over, mat
 use Rattle.unescaped.proofs.eq_bytes.Statement.{statement}
 use Rattle.unescaped.proofs.eq_bytes.Tie as tie
 
-abbrev invariant_loop : tie.invariant-loop
+abbrev invariant_loop : tie.invariant-loop-i
 invariant_loop text word i₀ k₀ i k = Comparing text word i k
 
-abbrev decreases_loop : tie.decreases-loop
+abbrev decreases_loop : tie.decreases-loop-i
 decreases_loop text word i₀ k₀ i k = length text - i
 
 pub eq_bytes_spec : {M : Type 1} → statement M

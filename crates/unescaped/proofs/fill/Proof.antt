@@ -8,10 +8,10 @@ use Rattle.unescaped.proofs.Filling.{Filling, start, kept, dropped, same_long, d
 use Rattle.unescaped.proofs.fill.Statement.{statement}
 use Rattle.unescaped.proofs.fill.Tie as tie
 
-abbrev invariant_loop : tie.invariant-loop
+abbrev invariant_loop : tie.invariant-loop-i
 invariant_loop text output₀ n₀ i₀ output n i = Filling text output₀ output n i
 
-abbrev decreases_loop : tie.decreases-loop
+abbrev decreases_loop : tie.decreases-loop-i
 decreases_loop text output₀ n₀ i₀ output n i = length text - i
 
 pub fill_spec : {M : Type 1} → statement M
@@ -31,5 +31,5 @@ fill_spec =
     (λ c. search (further, cases))
     (λ c. search (nearer, cases))
     (λ c. search (dropped, cases))
-    (λ c. omega (arith, same_long _ _ _ _ _ c.before.loop.invariant))
+    (λ c. omega (arith, same_long _ _ _ _ _ c.loop-i.invariant))
     (λ c. search (done, cases)))

@@ -6,10 +6,10 @@ use Rattle.unescaped.proofs.Pairing.{Pairing, start, done, over, differs, matche
 use Rattle.unescaped.proofs.same_unescaped.Statement.{statement}
 use Rattle.unescaped.proofs.same_unescaped.Tie as tie
 
-abbrev invariant_loop : tie.invariant-loop
+abbrev invariant_loop : tie.invariant-loop-i
 invariant_loop a b i₀ k₀ i k = Pairing a b i k
 
-abbrev decreases_loop : tie.decreases-loop
+abbrev decreases_loop : tie.decreases-loop-i
 decreases_loop a b i₀ k₀ i k = length a - i
 
 pub same_unescaped_spec : {M : Type 1} → statement M

@@ -6,10 +6,10 @@ use Rattle.unescaped.proofs.Skipping.{Skipping, start, further, nearer, passed, 
 use Rattle.unescaped.proofs.skip.Statement.{statement}
 use Rattle.unescaped.proofs.skip.Tie as tie
 
-abbrev invariant_loop : tie.invariant-loop
+abbrev invariant_loop : tie.invariant-loop-at
 invariant_loop text at i₀ i = Skipping text at i
 
-abbrev decreases_loop : tie.decreases-loop
+abbrev decreases_loop : tie.decreases-loop-at
 decreases_loop text at i₀ i = length text - i
 
 pub skip_spec : {M : Type 1} → statement M

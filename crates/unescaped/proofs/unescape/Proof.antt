@@ -22,4 +22,4 @@ unescape_spec =
     (λ c. search (written_short, cases))
     (λ c. search (written_fits, unescaped_fewer, le_step, cases))
     (λ c. search cases)
-    (λ c. search (written_whole, cases)))
+    (λ c. written_whole _ _ _ _ _ _ _ _ c.refused-refused.ensures (search cases) c.clear_bytes.ensures c.fill-n.ensures (search cases)))

@@ -11,9 +11,9 @@ fit_spec =
     tie.close
     (tie.spec
     (λ c κs. search rules)
-    (λ c. c.outside.ensures ∙ sym (too_low c.before.before.ranges.z c.before.if1.true))
+    (λ c. c.outside.ensures ∙ sym (too_low c.ranges.z c.if-z-ltminus2147483648.true))
     (λ c κs. search rules)
-    (λ c. c.outside2.ensures ∙ sym (too_high c.before.before.before.ranges.z c.before.if2.true))
-    (λ c. rw (to_z-of_z c.before.before.ranges.z) (between c.before.before.ranges.z c.before.if1.false c.if2.false))
+    (λ c. c.outside-then-z-gt2147483647.ensures ∙ sym (too_high c.ranges.z c.if-z-gt2147483647.true))
+    (λ c. rw (to_z-of_z c.ranges.z) (between c.ranges.z c.if-z-ltminus2147483648.false c.if-z-gt2147483647.false))
     (λ c κs. search rules)
-    (λ c. c.plain.ensures ∙ kept c.before.before.before.ranges.z (between c.before.before.before.ranges.z c.before.before.if1.false c.before.if2.false)))
+    (λ c. c.plain.ensures ∙ kept c.ranges.z (between c.ranges.z c.if-z-ltminus2147483648.false c.if-z-gt2147483647.false)))

@@ -60,7 +60,7 @@ pub join_spec : {M : Type 1} → statement M
 join_spec =
     tie.close
     (tie.spec
-    (λ c. left_stays _ _ _ c.if1.true)
+    (λ c. left_stays _ _ _ c.if-a-ne-NONE.true)
     (λ c κs. search rules)
     (λ c κs. search rules)
     (λ c. search (and_zero, rules))

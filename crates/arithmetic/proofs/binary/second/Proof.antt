@@ -11,9 +11,8 @@ pub second_spec : {M : Type 1} → statement M
 second_spec =
     tie.close
     (tie.spec
-    (λ c. stays _ _ c.if1.true)
+    (λ c. stays _ _ c.if-b-ne-NONE.true)
     (λ c κs. search rules)
     (λ c.
-    let s = c.before.before.before.before in
-    let h : SFits w32 s.args.b.value = record { sfits = c.before.struct_told.given.1.0.1 } in
-    goes_on _ _ c.before.before.if1.false (rw (to_z-of_z s.ranges.x, to_z-of_z h) at c.operate.ensures)))
+    let h : SFits w32 c.args.b.value = record { sfits = c.struct_told-1.given.1.0.1 } in
+    goes_on _ _ c.if-b-ne-NONE.false (rw (to_z-of_z c.ranges.x, to_z-of_z h) at c.operate.ensures)))

@@ -7,4 +7,4 @@ use Rattle.arithmetic.proofs.integer.bit_and.Statement.{statement}
 use Rattle.arithmetic.proofs.integer.bit_and.Tie as tie
 
 pub bit_and_spec : {M : Type 1} → statement M
-bit_and_spec = tie.close (tie.spec (λ c κs. search rules) (λ c. c.plain.ensures ∙ bitwise_is bit_and c.before.args.x c.before.args.y))
+bit_and_spec = tie.close (tie.spec (λ c κs. search rules) (λ c. c.plain.ensures ∙ bitwise_is bit_and c.args.x c.args.y))

@@ -7,4 +7,4 @@ use Rattle.arithmetic.proofs.integer.bit_xor.Statement.{statement}
 use Rattle.arithmetic.proofs.integer.bit_xor.Tie as tie
 
 pub bit_xor_spec : {M : Type 1} → statement M
-bit_xor_spec = tie.close (tie.spec (λ c κs. search rules) (λ c. c.plain.ensures ∙ bitwise_is bit_xor c.before.args.x c.before.args.y))
+bit_xor_spec = tie.close (tie.spec (λ c κs. search rules) (λ c. c.plain.ensures ∙ bitwise_is bit_xor c.args.x c.args.y))

@@ -14,4 +14,4 @@ minus_spec =
     (λ c. casts c.ranges.y)
     (λ c. op_asks differences c.ranges.x c.ranges.y)
     (λ c κs. search rules)
-    (λ c. c.fit.ensures ∙ ap within (op_is differences c.before.ranges.x c.before.ranges.y)))
+    (λ c. c.fit.ensures ∙ ap within (op_is differences c.ranges.x c.ranges.y)))

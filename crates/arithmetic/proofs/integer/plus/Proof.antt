@@ -14,4 +14,4 @@ plus_spec =
     (λ c. casts c.ranges.y)
     (λ c. op_asks sums c.ranges.x c.ranges.y)
     (λ c κs. search rules)
-    (λ c. c.fit.ensures ∙ ap within (op_is sums c.before.ranges.x c.before.ranges.y)))
+    (λ c. c.fit.ensures ∙ ap within (op_is sums c.ranges.x c.ranges.y)))

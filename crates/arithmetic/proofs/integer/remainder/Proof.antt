@@ -13,10 +13,10 @@ remainder_spec =
     tie.close
     (tie.spec
     (λ c κs. search rules)
-    (λ c. c.outside.ensures ∙ sym (if_true _ _ _ (zero_yes c.before.before.ranges.y c.before.if1.true)))
-    (λ c. casts c.before.ranges.x)
-    (λ c. casts c.before.ranges.y)
-    (λ c. (divisor c.before.ranges.y c.if1.false, op_asks quotients c.before.ranges.x c.before.ranges.y))
+    (λ c. c.outside.ensures ∙ sym (if_true _ _ _ (zero_yes c.ranges.y c.if-y-eq0.true)))
+    (λ c. casts c.ranges.x)
+    (λ c. casts c.ranges.y)
+    (λ c. (divisor c.ranges.y c.if-y-eq0.false, op_asks quotients c.ranges.x c.ranges.y))
     (λ c κs. search rules)
-    (λ c. c.fit.ensures ∙ ap within (op_is remainders c.before.before.ranges.x c.before.before.ranges.y)
-    ∙ sym (if_false _ _ _ (zero_no c.before.before.ranges.y c.before.if1.false))))
+    (λ c. c.fit.ensures ∙ ap within (op_is remainders c.ranges.x c.ranges.y)
+    ∙ sym (if_false _ _ _ (zero_no c.ranges.y c.if-y-eq0.false))))

@@ -10,9 +10,9 @@ shift_right_spec =
     tie.close
     (tie.spec
     (λ c κs. search rules)
-    (λ c. c.outside.ensures ∙ sym (shift_low _ c.before.before.ranges.y c.before.if1.true))
+    (λ c. c.outside.ensures ∙ sym (shift_low _ c.ranges.y c.if-y-lt0.true))
     (λ c κs. search rules)
-    (λ c. c.outside2.ensures ∙ sym (shift_high _ c.before.before.before.ranges.y c.before.if2.true))
-    (λ c. right_asks (shift c.before.before.ranges.y c.before.if1.false c.if2.false))
+    (λ c. c.outside-then-y-gt31.ensures ∙ sym (shift_high _ c.ranges.y c.if-y-gt31.true))
+    (λ c. right_asks (shift c.ranges.y c.if-y-lt0.false c.if-y-gt31.false))
     (λ c κs. search rules)
-    (λ c. c.plain.ensures ∙ right c.before.before.before.ranges.x (shift c.before.before.before.ranges.y c.before.before.if1.false c.before.if2.false)))
+    (λ c. c.plain.ensures ∙ right c.ranges.x (shift c.ranges.y c.if-y-lt0.false c.if-y-gt31.false)))

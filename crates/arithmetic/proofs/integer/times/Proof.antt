@@ -14,4 +14,4 @@ times_spec =
     (λ c. casts c.ranges.y)
     (λ c. op_asks products c.ranges.x c.ranges.y)
     (λ c κs. search rules)
-    (λ c. c.fit.ensures ∙ ap within (op_is products c.before.ranges.x c.before.ranges.y)))
+    (λ c. c.fit.ensures ∙ ap within (op_is products c.ranges.x c.ranges.y)))

@@ -7,4 +7,4 @@ use Rattle.arithmetic.proofs.unary.flipped.Statement.{statement}
 use Rattle.arithmetic.proofs.unary.flipped.Tie as tie
 
 pub flipped_spec : {M : Type 1} → statement M
-flipped_spec = tie.close (tie.spec (λ c κs. search rules) (λ c. c.plain.ensures ∙ ap value (flipped_is c.before.ranges.x)))
+flipped_spec = tie.close (tie.spec (λ c κs. search rules) (λ c. c.plain.ensures ∙ ap value (flipped_is c.ranges.x)))

@@ -10,8 +10,8 @@ unfolding unaries lookup unary is_unary
 is_sign_spec =
     tie.close
     (tie.spec
-    (λ c. rw c.match.keys1)
-    (λ c. rw c.match.keys2)
-    (λ c. rw c.match.keys3)
-    (λ c. rw c.match.keys4)
-    (λ c. rw (no_unary c.before.args.kind c.match.rest)))
+    (λ c. rw c.in-5.is)
+    (λ c. rw c.in-6.is)
+    (λ c. rw c.in-21.is)
+    (λ c. rw c.in-23.is)
+    (λ c. rw (no_unary c.args.kind c.in_default.in_default-own.rest)))

@@ -15,4 +15,4 @@ negated_spec =
     (λ c. casts c.ranges.x)
     (λ c. op_asks differences (sfits_lit {z = pos 0} tt) c.ranges.x)
     (λ c κs. search rules)
-    (λ c. c.fit.ensures ∙ ap within (op_is differences (sfits_lit {z = pos 0} tt) c.before.ranges.x ∙ +ℤ_idl (neg_ℤ c.before.args.x))))
+    (λ c. c.fit.ensures ∙ ap within (op_is differences (sfits_lit {z = pos 0} tt) c.ranges.x ∙ +ℤ_idl (neg_ℤ c.args.x))))

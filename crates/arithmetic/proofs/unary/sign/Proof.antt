@@ -33,15 +33,15 @@ unfolding unaries lookup unary unary_of
 sign_spec =
     tie.close
     (tie.spec
-    (λ c. stays _ _ c.if1.true)
+    (λ c. stays _ _ c.if-a-ne-NONE.true)
     (λ c κs. search rules)
     (λ c κs. search rules)
     (λ c κs. search rules)
     (λ c κs. search rules)
     (λ c κs. search rules)
     (λ c κs. search rules)
-    (λ c. arm _ _ c.before.before.before.if1.false (record { sfits = c.before.struct_told.given.1.0.1 }) c.before.before.match.keys1 c.plain.ensures)
-    (λ c. arm _ _ c.before.before.before.if1.false (record { sfits = c.before.struct-told2.given.1.0.1 }) c.before.before.match.keys2 c.negated.ensures)
-    (λ c. arm _ _ c.before.before.before.if1.false (record { sfits = c.before.struct-told3.given.1.0.1 }) c.before.before.match.keys3 c.flipped.ensures)
-    (λ c. arm _ _ c.before.before.before.before.if1.false (record { sfits = c.before.before.struct-told4.given.1.0.1 }) c.before.before.before.match.keys4 (rw c.before.zero.ensures at c.truth.ensures))
-    (λ c. no_arm _ _ c.before.before.if1.false c.before.match.rest c.no-expression.ensures))
+    (λ c. arm _ _ c.if-a-ne-NONE.false (record { sfits = c.struct_told-1.given.1.0.1 }) c.in-5.is c.plain.ensures)
+    (λ c. arm _ _ c.if-a-ne-NONE.false (record { sfits = c.struct_told-in-6-1.given.1.0.1 }) c.in-6.is c.negated.ensures)
+    (λ c. arm _ _ c.if-a-ne-NONE.false (record { sfits = c.struct_told-in-21-1.given.1.0.1 }) c.in-21.is c.flipped.ensures)
+    (λ c. arm _ _ c.if-a-ne-NONE.false (record { sfits = c.struct_told-in-23-1.given.1.0.1 }) c.in-23.is (rw c.zero.ensures at c.truth.ensures))
+    (λ c. no_arm _ _ c.if-a-ne-NONE.false c.in_default.in_default-own.rest c.no_expression.ensures))

@@ -57,10 +57,10 @@ abbrev unary_below : ℕ → In 4 unary_kinds.ps
 unary_below t = and 4 unary_kinds.ps (falls 4 unary_kinds.ps ◌<◌ μ_unary t) unary.Pre
 
 -- The loop over operators.
-abbrev invariant_loop : expression_lts.invariant_loop
+abbrev invariant_loop : expression_lts.invariant-loop-t
 invariant_loop src classes list text depth rank a₀ a = Climbs src list text depth rank a₀ a
 
-abbrev decreases_loop : expression_lts.decreases_loop
+abbrev decreases_loop : expression_lts.decreases-loop-t
 decreases_loop src classes list text depth rank a₀ a = length (left src a.next)
 
 pub +bracket_expression_unary_spec : {M : Type 1} → statement M
@@ -69,52 +69,52 @@ pub +bracket_expression_unary_spec : {M : Type 1} → statement M
     (expression_below t, expression.Post, closed_reads.Asked, closed_reads.Learnt)
     (bracket_at t)
     bracket.Post
-    (λ c κs. (omega (arith, c.before.before.before.requires.0), c.before.before.before.requires.1))
-    (λ c κs. standing_at c.before.before.before.before.requires.1 c.expression.ensures.stands)
-    (λ c. closes c.before.expression.ensures c.closed.ensures))
+    (λ c κs. (omega (arith, c.requires.0), c.requires.1))
+    (λ c κs. standing_at c.requires.1 c.expression-a.ensures.stands)
+    (λ c. closes c.expression-a.ensures c.closed.ensures))
     (λ t. expression_lts.spec
     (unary_below t, unary.Post, rank_reads.Asked, rank_reads.Learnt, next_reads.Asked, next_reads.Learnt, expression_below t, expression.Post, joined_reads.Asked, joined_reads.Learnt)
     (expression_at t)
     expression.Post
     invariant_loop
     decreases_loop
-    (λ c κs. (omega (arith, c.before.before.before.requires.0), c.before.before.before.requires.1))
-    (λ c. not_begun _ _ _ _ _ _ _ c.before.before.unary.ensures c.if1.true)
-    (λ c. begun _ _ _ _ _ _ _ c.before.before.unary.ensures c.if1.false)
+    (λ c κs. (omega (arith, c.requires.0), c.requires.1))
+    (λ c. not_begun _ _ _ _ _ _ _ c.unary-a.ensures c.if-not-a.true)
+    (λ c. begun _ _ _ _ _ _ _ c.unary-a.ensures c.if-not-a.false)
     (λ c κs. search rules)
-    (λ c. climbed _ _ _ _ _ _ _ c.before.before.before.before.before.before.unary.ensures c.before.before.before.before.if1.false _ c.before.before.before.loop.invariant _ c.before.rank.ensures c.if2.true)
-    (λ c κs. (c.before.before.before.before.before.before.before.before.before.before.requires.1.table, c.before.before.before.before.before.before.before.before.before.before.requires.1.short))
+    (λ c. climbed _ _ _ _ _ _ _ c.unary-a.ensures c.if-not-a.false _ c.loop-t.invariant _ c.rank-above.ensures c.if-above-rank.true)
+    (λ c κs. (c.requires.1.table, c.requires.1.short))
     (λ c κs. (
-      let l = climb_fewer _ _ _ _ _ _ _ c.before.before.before.before.before.before.before.unary.ensures c.before.before.before.before.before.if1.false _ c.before.before.before.before.loop.invariant _ c.before.before.rank.ensures c.before.if2.false _ c.next.ensures in omega (arith, c.before.before.before.before.before.before.before.before.before.before.before.requires.0, l),
-      standing_at c.before.before.before.before.before.before.before.before.before.before.before.requires.1 c.next.ensures.stands,
+      let l = climb_fewer _ _ _ _ _ _ _ c.unary-a.ensures c.if-not-a.false _ c.loop-t.invariant _ c.rank-above.ensures c.if-above-rank.false _ c.next-y.ensures in omega (arith, c.requires.0, l),
+      standing_at c.requires.1 c.next-y.ensures.stands,
     ))
-    (λ c. not_joined _ _ _ _ _ _ _ c.before.before.before.before.before.before.before.before.before.before.unary.ensures c.before.before.before.before.before.before.before.before.if1.false _ c.before.before.before.before.before.before.before.loop.invariant _ c.before.before.before.before.before.rank.ensures c.before.before.before.before.if2.false _ c.before.before.before.next.ensures _ c.before.before.expression.ensures c.if3.true)
+    (λ c. not_joined _ _ _ _ _ _ _ c.unary-a.ensures c.if-not-a.false _ c.loop-t.invariant _ c.rank-above.ensures c.if-above-rank.false _ c.next-y.ensures _ c.expression-b.ensures c.if-not-b.true)
     (λ c κs. search rules)
-    (λ c. nearer _ _ _ _ _ _ _ c.before.before.before.before.before.before.before.before.before.before.before.unary.ensures c.before.before.before.before.before.before.before.before.before.if1.false _ c.before.before.before.before.before.before.before.before.loop.invariant _ c.before.before.before.before.before.before.rank.ensures c.before.before.before.before.before.if2.false _ c.before.before.before.before.next.ensures _ c.before.before.before.expression.ensures c.before.if3.false _ c.joined.ensures)
-    (λ c. climbs_on _ _ _ _ _ _ _ c.before.before.before.before.before.before.before.before.before.before.before.unary.ensures c.before.before.before.before.before.before.before.before.before.if1.false _ c.before.before.before.before.before.before.before.before.loop.invariant _ c.before.before.before.before.before.before.rank.ensures c.before.before.before.before.before.if2.false _ c.before.before.before.before.next.ensures _ c.before.before.before.expression.ensures c.before.if3.false _ c.joined.ensures))
+    (λ c. nearer _ _ _ _ _ _ _ c.unary-a.ensures c.if-not-a.false _ c.loop-t.invariant _ c.rank-above.ensures c.if-above-rank.false _ c.next-y.ensures _ c.expression-b.ensures c.if-not-b.false _ c.joined-a.ensures)
+    (λ c. climbs_on _ _ _ _ _ _ _ c.unary-a.ensures c.if-not-a.false _ c.loop-t.invariant _ c.rank-above.ensures c.if-above-rank.false _ c.next-y.ensures _ c.expression-b.ensures c.if-not-b.false _ c.joined-a.ensures))
     (λ t. unary_lts.spec
     (is_sign_reads.Asked, is_sign_reads.Learnt, nothing_reads.Asked, nothing_reads.Learnt, next_reads.Asked, next_reads.Learnt, unary_below t, unary.Post, signed_Reads.Asked, signed_Reads.Learnt, bracket_below t, bracket.Post, operand_reads.Asked, operand_reads.Learnt)
     (unary_at t)
     unary.Post
     (λ c κs. search rules)
     (λ c κs. search rules)
-    (λ c. sign_too_deep _ _ _ _ c.before.before.before.before.before.before.before.requires.1.stands _ _ c.before.before.before.is-sign.ensures c.before.before.if1.true c.before.if2.true c.nothing.ensures)
-    (λ c κs. (c.before.before.before.before.before.before.requires.1.table, c.before.before.before.before.before.before.requires.1.short))
+    (λ c. sign_too_deep _ _ _ _ c.requires.1.stands _ _ c.is_sign.ensures c.if-is_sign.true c.if-depth-eq0.true c.nothing.ensures)
+    (λ c κs. (c.requires.1.table, c.requires.1.short))
     (λ c. search rules)
     (λ c κs. (
-      let l = sign_fewer _ _ c.before.before.before.before.before.before.before.requires.1.stands _ c.next.ensures _ c.before.before.before.is-sign.ensures c.before.before.if1.true in omega (arith, c.before.before.before.before.before.before.before.requires.0, l),
-      standing_at c.before.before.before.before.before.before.before.requires.1 c.next.ensures.stands,
+      let l = sign_fewer _ _ c.requires.1.stands _ c.next-y.ensures _ c.is_sign.ensures c.if-is_sign.true in omega (arith, c.requires.0, l),
+      standing_at c.requires.1 c.next-y.ensures.stands,
     ))
     (λ c κs. search rules)
-    (λ c. signs_operand _ _ _ _ c.before.before.before.before.before.before.before.before.before.requires.1.stands _ _ c.before.before.before.before.before.is-sign.ensures c.before.before.before.before.if1.true c.before.before.before.if2.false _ c.before.before.next.ensures _ _ c.before.unary.ensures c.signed.ensures)
+    (λ c. signs_operand _ _ _ _ c.requires.1.stands _ _ c.is_sign.ensures c.if-is_sign.true c.if-depth-eq0.false _ c.next-y.ensures _ _ c.unary.ensures c.signed.ensures)
     (λ c κs. search rules)
-    (λ c. open_too_deep _ _ _ _ c.before.before.before.before.before.before.before.before.before.requires.1.stands _ c.before.before.if3.true c.before.if4.true c.nothing2.ensures)
-    (λ c κs. (c.before.before.before.before.before.before.before.before.requires.1.table, c.before.before.before.before.before.before.before.before.requires.1.short))
+    (λ c. open_too_deep _ _ _ _ c.requires.1.stands _ c.if-x-eq-LPAREN.true c.if-depth-eq0-2.true c.nothing-then-depth-eq0-2.ensures)
+    (λ c κs. (c.requires.1.table, c.requires.1.short))
     (λ c. search rules)
     (λ c κs. (
-      let l = open_fewer _ _ c.before.before.before.before.before.before.before.before.before.requires.1.stands _ c.next2.ensures c.before.before.if3.true in omega (arith, c.before.before.before.before.before.before.before.before.before.requires.0, l),
-      standing_at c.before.before.before.before.before.before.before.before.before.requires.1 c.next2.ensures.stands,
+      let l = open_fewer _ _ c.requires.1.stands _ c.next-y-then-x-eq-LPAREN.ensures c.if-x-eq-LPAREN.true in omega (arith, c.requires.0, l),
+      standing_at c.requires.1 c.next-y-then-x-eq-LPAREN.ensures.stands,
     ))
-    (λ c. opens_bracket _ _ _ _ c.before.before.before.before.before.before.before.before.before.before.requires.1.stands _ c.before.before.before.if3.true c.before.before.if4.false _ c.before.next2.ensures c.bracket.ensures)
-    (λ c κs. c.before.before.before.before.before.before.before.requires.1)
-    (λ c. operand_simple _ _ _ _ c.before.before.before.before.before.before.before.before.requires.1.stands _ _ c.before.before.before.before.is-sign.ensures c.before.before.before.if1.false c.before.if3.false c.operand.ensures))
+    (λ c. opens_bracket _ _ _ _ c.requires.1.stands _ c.if-x-eq-LPAREN.true c.if-depth-eq0-2.false _ c.next-y-then-x-eq-LPAREN.ensures c.bracket.ensures)
+    (λ c κs. c.requires.1)
+    (λ c. operand_simple _ _ _ _ c.requires.1.stands _ _ c.is_sign.ensures c.if-is_sign.false c.if-x-eq-LPAREN.false c.operand.ensures))

@@ -14,4 +14,4 @@ defined_in_spec = tie.close (tie.spec
     (λ c κs. search cases)
     (λ c κs. search cases)
     (λ c κs. search cases)
-    (λ c. in_name _ _ c.before.before.before.before.before.before.before.before.before.before.before.requires.stands _ _ c.before.before.before.before.before.before.if1.false _ c.before.before.before.before.before.next.ensures c.before.before.before.if2.false _ c.before.next2.ensures c.before.before.name-listed.ensures c.got.ensures))
+    (λ c. in_name _ _ c.requires.stands _ _ c.if-x-ne-IDENT_KW.false _ c.next-c.ensures c.if-c-ne-RPAREN.false _ c.next.ensures c.name_listed.ensures c.got.ensures))

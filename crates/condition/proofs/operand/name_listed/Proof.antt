@@ -8,8 +8,8 @@ pub name_listed_spec : {M : Type 1} → statement M
 name_listed_spec = tie.close (tie.spec
     (λ c. search cases)
     (λ c. search cases)
-    (λ c. text_from _ _ c.before.before.before.before.before.requires)
-    (λ c. text_from _ _ c.before.before.before.before.before.requires)
-    (λ c. text_to _ _ c.before.before.before.before.before.requires)
+    (λ c. text_from _ _ c.requires)
+    (λ c. text_from _ _ c.requires)
+    (λ c. text_to _ _ c.requires)
     (λ c κs. search cases)
-    (λ c. rw (text_is _ _ c.before.before.before.before.before.before.before.requires) c.is-listed.ensures))
+    (λ c. rw (text_is _ _ c.requires) c.is_listed.ensures))

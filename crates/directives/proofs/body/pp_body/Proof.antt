@@ -9,4 +9,4 @@ pp_body_spec = tie.close (tie.spec
     (λ c κs. search rules)
     (λ c κs. search rules)
     (λ c. search rules)
-    (λ c. body_read c.before.before.before.before.before.before.before.before.before.requires.1 c.before.before.before.before.pp_body.ensures c.worse.ensures))
+    (λ c. body_read c.before.before.before.before.before.before.before.before.before.requires.1 c.pp_body-b.ensures c.worse.ensures))

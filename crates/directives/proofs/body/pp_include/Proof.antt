@@ -10,6 +10,6 @@ pp_include_spec = tie.close (tie.spec
     (λ c κs. search rules)
     (λ c κs. search rules)
     (λ c κs. search rules)
-    (λ c κs. (ready_again c.before.before.before.before.again.ensures c.before.before.before.run_of.ensures c.before.before.with_run.ensures c.before.before.before.before.before.before.before.before.requires, refl))
+    (λ c κs. (ready_again c.again-x.ensures c.run_of.ensures c.with_run-a.ensures c.before.before.before.before.before.before.before.before.requires, refl))
     (λ c. search rules)
-    (λ c. include_read c.before.before.before.before.before.before.before.again.ensures c.before.before.before.before.before.before.run_of.ensures c.before.before.before.before.before.with_run.ensures c.before.before.pp_body.ensures))
+    (λ c. include_read c.again-x.ensures c.run_of.ensures c.with_run-a.ensures c.pp_body.ensures))

@@ -10,4 +10,4 @@ pp_define_spec = tie.close (tie.spec
     (λ c κs. search rules)
     (λ c. search rules)
     (λ c. search rules)
-    (λ c. define_read c.before.before.before.before.before.before.before.before.before.define_head.ensures c.before.before.pp_body.ensures))
+    (λ c. define_read c.define_head-a.ensures c.pp_body.ensures))

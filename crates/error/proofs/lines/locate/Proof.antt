@@ -18,7 +18,7 @@ locate_spec =
     (λ c κs. search cases)
     (λ c. search cases)
     (λ c. search cases)
-    (λ c. line_fits _ _ _ _ c.before.search.ensures (c.before.before.slice-known2.given (c.before.before.before.before.before.args.n + Offset.start)))
+    (λ c. line_fits _ _ _ _ c.search-line.ensures (c.slice_known-2-1.given (c.before.before.before.before.before.args.n + Offset.start)))
     (λ c. search cases)
     (λ c. search cases)
     (λ c. search cases)

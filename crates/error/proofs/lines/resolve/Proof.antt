@@ -6,10 +6,10 @@ use Rattle.error.proofs.Resolving.{Resolving, begin, full, over, one_more}
 use Rattle.error.proofs.lines.resolve.Statement.{statement}
 use Rattle.error.proofs.lines.resolve.Tie as tie
 
-abbrev invariant_loop : tie.invariant-loop
+abbrev invariant_loop : tie.invariant-loop-left
 invariant_loop errors₀ count lines used n₀ left₀ errors n left = Resolving (take used lines) errors₀ count errors n left
 
-abbrev decreases_loop : tie.decreases-loop
+abbrev decreases_loop : tie.decreases-loop-left
 decreases_loop errors₀ count lines used n₀ left₀ errors n left = left
 
 pub resolve_spec : {M : Type 1} → statement M

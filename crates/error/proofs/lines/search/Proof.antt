@@ -5,10 +5,10 @@ use Rattle.error.proofs.Searching.{Searching, start, middle_in, upper, lower, up
 use Rattle.error.proofs.lines.search.Statement.{statement}
 use Rattle.error.proofs.lines.search.Tie as tie
 
-abbrev invariant_loop : tie.invariant-loop
+abbrev invariant_loop : tie.invariant-loop-high
 invariant_loop lines count offset low₀ high₀ low high = Searching lines count offset low high
 
-abbrev decreases_loop : tie.decreases-loop
+abbrev decreases_loop : tie.decreases-loop-high
 decreases_loop lines count offset low₀ high₀ low high = high - low
 
 pub search_spec : {M : Type 1} → statement M

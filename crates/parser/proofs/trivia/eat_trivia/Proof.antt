@@ -8,10 +8,10 @@ use Rattle.parser.proofs.Passing.{eat_past, eat_end, eat_more, eat_fewer, eat_st
 use Rattle.parser.proofs.trivia.eat_trivia.Statement.{statement}
 use Rattle.parser.proofs.trivia.eat_trivia.Tie as tie
 
-abbrev invariant_loop : tie.invariant-loop
+abbrev invariant_loop : tie.invariant-loop-x
 invariant_loop src classes table₀ stop held₀ x₀ table held x = Writing src (before stop) table₀ held₀ x₀ table held x
 
-abbrev decreases_loop : tie.decreases-loop
+abbrev decreases_loop : tie.decreases-loop-x
 decreases_loop src classes table₀ stop held₀ x₀ table held x = length (unread src x)
 
 pub eat_trivia_spec : {M : Type 1} → statement M

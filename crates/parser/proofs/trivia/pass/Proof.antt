@@ -6,10 +6,10 @@ use Rattle.parser.proofs.Passing.{Passing, passing_start, passing_more, passing_
 use Rattle.parser.proofs.trivia.pass.Statement.{statement}
 use Rattle.parser.proofs.trivia.pass.Tie as tie
 
-abbrev invariant_loop : tie.invariant-loop
+abbrev invariant_loop : tie.invariant-loop-next
 invariant_loop src classes x next₀ next = Passing src x next
 
-abbrev decreases_loop : tie.decreases-loop
+abbrev decreases_loop : tie.decreases-loop-next
 decreases_loop src classes x next₀ next = length (unread src next)
 
 pub pass_spec : {M : Type 1} → statement M

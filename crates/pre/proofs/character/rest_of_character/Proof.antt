@@ -44,10 +44,10 @@ module _ (s : List ℕ) (kind b at i : ℕ) (l : 192 ≤ b) (u : b < 256) (k : W
       goes : get_or s i 0 ≤ 191 → Wide s kind b at (i + 1)
       goes y = record { is = k.is ∙ from_same (done kind) b i s h b (char ∙ rw (le-leb 128 (get_or s i 0) z, le-leb (get_or s i 0) 191 y)) }
 
-abbrev invariant_loop : tie.invariant-loop
+abbrev invariant_loop : tie.invariant-loop-i
 invariant_loop src at b kind i₀ i = Wide src kind b at i
 
-abbrev decreases_loop : tie.decreases-loop
+abbrev decreases_loop : tie.decreases-loop-i
 decreases_loop src at b kind i₀ i = length src - i
 
 pub rest_of_character_spec : {M : Type 1} → statement M

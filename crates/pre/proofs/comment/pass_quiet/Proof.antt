@@ -1,7 +1,7 @@
 -- `pass_quiet` passes over bytes that a single-line comment goes on with, look by look.
 use Prim.Native.Nat.{◌-◌}
 use lib.ListN.{length}
-use Rattle.definition.specs.Pre.{single-comment}
+use Rattle.definition.specs.Pre.{single_comment}
 use Rattle.pre.specs.Passes.{line_step, Passes}
 use Rattle.text.proofs.Cases.{cases}
 use Rattle.text.proofs.Places.{stood, part_fits, whole_fits, whole_nearer}
@@ -9,10 +9,10 @@ use Rattle.pre.proofs.Passings.{pass_none, line_part, line_whole}
 use Rattle.pre.proofs.comment.pass_quiet.Statement.{statement}
 use Rattle.pre.proofs.comment.pass_quiet.Tie as tie
 
-abbrev invariant_loop : tie.invariant-loop
-invariant_loop src at i₀ i = Passes single-comment src at i
+abbrev invariant_loop : tie.invariant-loop-k
+invariant_loop src at i₀ i = Passes single_comment src at i
 
-abbrev decreases_loop : tie.decreases-loop
+abbrev decreases_loop : tie.decreases-loop-k
 decreases_loop src at i₀ i = length src - i
 
 pub pass_quiet_spec : {M : Type 1} → statement M
@@ -21,7 +21,7 @@ pass_quiet_spec =
     (tie.spec
     invariant_loop
     decreases_loop
-    (λ c. pass_none single-comment _ _)
+    (λ c. pass_none single_comment _ _)
     (λ c κs. search cases)
     (λ c κs. search (stood, cases))
     (λ c. search cases)

@@ -6,7 +6,7 @@ use lib.ListN.{length, get_or}
 use borrow.Author.Tests.{ne_eqb}
 use Rattle.definition.specs.Text.{byte}
 use Rattle.definition.specs.SyntaxKind.{Kind}
-use Rattle.definition.specs.Pre.{slash, single-comment, multi-comment, kind_of, more}
+use Rattle.definition.specs.Pre.{slash, single_comment, multi_comment, kind_of, more}
 use Rattle.text.proofs.Cases.{cases}
 use Rattle.pre.specs.Scan.{from}
 use Rattle.pre.specs.declared.token.Token.{Token}
@@ -21,13 +21,13 @@ module _ (s : List ℕ) (at : ℕ) where
   ended h = sym (from_end slash 0 at s h)
 
   module _ (h : at < length s) where
-    to_single : (r : Token) → r ≡ from single-comment 0 (at + 1) s → get_or s at 0 ≡ byte "/" → r ≡ from slash 0 at s
+    to_single : (r : Token) → r ≡ from single_comment 0 (at + 1) s → get_or s at 0 ≡ byte "/" → r ≡ from slash 0 at s
     unfolding more
-    to_single r e b = e ∙ sym (go_on slash single-comment at s h (closed_is _ _ b refl) (rw b))
+    to_single r e b = e ∙ sym (go_on slash single_comment at s h (closed_is _ _ b refl) (rw b))
 
-    to_multi : (r : Token) → r ≡ from multi-comment 0 (at + 1) s → get_or s at 0 ≡ byte "*" → r ≡ from slash 0 at s
+    to_multi : (r : Token) → r ≡ from multi_comment 0 (at + 1) s → get_or s at 0 ≡ byte "*" → r ≡ from slash 0 at s
     unfolding more
-    to_multi r e b = e ∙ sym (go_on slash multi-comment at s h (closed_is _ _ b refl) (rw b))
+    to_multi r e b = e ∙ sym (go_on slash multi_comment at s h (closed_is _ _ b refl) (rw b))
 
     stops : (get_or s at 0 ≡ byte "/" → ⊥) → (get_or s at 0 ≡ byte "*" → ⊥) → token Kind.SLASH at ≡ from slash 0 at s
     unfolding more kind_of

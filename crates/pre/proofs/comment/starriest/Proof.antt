@@ -7,10 +7,10 @@ use Rattle.pre.proofs.Passings.{mark_more}
 use Rattle.pre.proofs.comment.starriest.Statement.{statement}
 use Rattle.pre.proofs.comment.starriest.Tie as tie
 
-abbrev invariant_loop : tie.invariant-loop
+abbrev invariant_loop : tie.invariant-loop-k
 invariant_loop src at m₀ k₀ m k = Gathering star_look src at k m
 
-abbrev decreases_loop : tie.decreases-loop
+abbrev decreases_loop : tie.decreases-loop-k
 decreases_loop src at m₀ k₀ m k = star_look.size - k
 
 pub starriest_spec : {M : Type 1} → statement M

@@ -56,10 +56,10 @@ module _ (s : List ℕ) (q₀ : State) (at i : ℕ) (e d : Bool) (k : Same s q�
           cont : (w ≡ 0 → ⊥) → Same s q₀ at (digits e d) (i + 1 + w)
           cont o = same_cont s q₀ at (digits e d) i k h (in_digits e d) b m (back_digits e d) w l o
 
-abbrev invariant_loop : tie.invariant-loop
+abbrev invariant_loop : tie.invariant-loop-i
 invariant_loop src table at i₀ e₀ dot₀ i e dot = Same src (digits e₀ dot₀) at (digits e dot) i
 
-abbrev decreases_loop : tie.decreases-loop
+abbrev decreases_loop : tie.decreases-loop-i
 decreases_loop src table at i₀ e₀ dot₀ i e dot = length src - i
 
 pub digits_spec : {M : Type 1} → statement M

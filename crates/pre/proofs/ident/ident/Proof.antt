@@ -6,7 +6,7 @@ use lib.ListN.{length, drop, get_or}
 use Rattle.definition.specs.Text.{byte}
 use Rattle.definition.specs.SyntaxKind.{Kind}
 use Rattle.definition.specs.Newline.{chars}
-use Rattle.definition.specs.Pre.{ident, in-ident, kind_of, more}
+use Rattle.definition.specs.Pre.{ident, in_ident, kind_of, more}
 use Rattle.text.specs.Newline.{newline_len}
 use Rattle.text.proofs.Cases.{cases}
 use Rattle.pre.specs.Table.{ClassNumber, class_number}
@@ -31,11 +31,11 @@ module _ (s : List ℕ) (at i : ℕ) (k : Same s ident at ident i) where
     module _ (w : ℕ) (e : get_or s i 0 ≡ byte "\\") (v : w ≡ newline_len (chars (drop (i + 1) s))) where
       bare : w ≡ 0 → token Kind.BACKSLASH (i + 1) ≡ from ident 0 at s
       unfolding more
-      bare z = same_bare s ident at ident i k h in-ident e refl back_ident w v z
+      bare z = same_bare s ident at ident i k h in_ident e refl back_ident w v z
 
       cont : (w ≡ 0 → ⊥) → Same s ident at ident (i + 1 + w)
       unfolding more
-      cont z = same_cont s ident at ident i k h in-ident e refl back_ident w v z
+      cont z = same_cont s ident at ident i k h in_ident e refl back_ident w v z
 
     module _ (r : ℕ) (e : r ≡ class_number (get_or s i 0)) where
       goes : r < ClassNumber.NEWLINE → Same s ident at ident (i + 1)
@@ -45,10 +45,10 @@ module _ (s : List ℕ) (at i : ℕ) (k : Same s ident at ident i) where
       unfolding kind_of
       stops z n m = same_stop s ident at ident i k h (ident_stops _ r e z n m)
 
-abbrev invariant_loop : tie.invariant-loop
+abbrev invariant_loop : tie.invariant-loop-i
 invariant_loop src table at i₀ i = Same src ident at ident i
 
-abbrev decreases_loop : tie.decreases-loop
+abbrev decreases_loop : tie.decreases-loop-i
 decreases_loop src table at i₀ i = length src - i
 
 pub ident_spec : {M : Type 1} → statement M

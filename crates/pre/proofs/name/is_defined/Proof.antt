@@ -13,7 +13,6 @@ is_defined_spec =
     tie.close
     (tie.spec
     (λ c κs. search rules)
-    (λ c. search rules)
     (λ c κs. search rules)
     (λ c. search rules)
-    (λ c. never _ defined _ _ refl c.before.may_be.ensures c.if1.false))
+    (λ c. never _ defined _ _ refl c.may_be.ensures c.if-may_be.false))

@@ -5,7 +5,7 @@ use mathlib.Core.Bool.{Bool, true, false}
 use mathlib.Core.List.{List}
 use Rattle.definition.specs.Text.{ascii, byte}
 use Rattle.definition.specs.SyntaxKind.{Kind}
-use Rattle.definition.specs.Pre.{State, done, slash, ident, quote-string, angle-string, backslash, alone, begin, find}
+use Rattle.definition.specs.Pre.{State, done, slash, ident, quote_string, angle_string, backslash, alone, begin, find}
 use Rattle.text.proofs.Cases.{cases}
 use Rattle.pre.specs.Table.{class_number}
 use Rattle.pre.specs.Scan.{from}
@@ -28,13 +28,13 @@ module _ (s : List ℕ) (at b : ℕ) (f : Bool) where
   to_slash : (r : Token) → r ≡ from slash 0 (at + 1) s → b ≡ byte "/" → r ≡ from (begin f b) b (at + 1) s
   to_slash r e p = by slash (byte "/") r e p refl (begin_slash f)
 
-  to_quote : (r : Token) → r ≡ from quote-string 0 (at + 1) s → b ≡ byte "\"" → r ≡ from (begin f b) b (at + 1) s
+  to_quote : (r : Token) → r ≡ from quote_string 0 (at + 1) s → b ≡ byte "\"" → r ≡ from (begin f b) b (at + 1) s
   unfolding begin
-  to_quote r e p = by quote-string (byte "\"") r e p refl refl
+  to_quote r e p = by quote_string (byte "\"") r e p refl refl
 
-  to_angle : (r : Token) → r ≡ from angle-string 0 (at + 1) s → b ≡ byte "<" → f ≡ true → r ≡ from (begin f b) b (at + 1) s
+  to_angle : (r : Token) → r ≡ from angle_string 0 (at + 1) s → b ≡ byte "<" → f ≡ true → r ≡ from (begin f b) b (at + 1) s
   unfolding begin
-  to_angle r e p z = by angle-string (byte "<") r e p refl (rw z)
+  to_angle r e p z = by angle_string (byte "<") r e p refl (rw z)
 
   less : b ≡ byte "<" → f ≡ false → token Kind.LANGLE (at + 1) ≡ from (begin f b) b (at + 1) s
   unfolding begin find ascii

@@ -2,17 +2,17 @@
 use Prim.Native.Nat.{◌-◌}
 use mathlib.Core.Path.{refl}
 use lib.ListN.{length}
-use Rattle.definition.specs.Pre.{quote-string}
+use Rattle.definition.specs.Pre.{quote_string}
 use Rattle.text.proofs.Cases.{cases}
 use Rattle.pre.proofs.Scans.{Same}
 use Rattle.pre.proofs.Strings.{quoted, string_end, string_closes, string_goes}
 use Rattle.pre.proofs.string.quote_string.Statement.{statement}
 use Rattle.pre.proofs.string.quote_string.Tie as tie
 
-abbrev invariant_loop : tie.invariant-loop
-invariant_loop src at i₀ i = Same src quote-string at quote-string i
+abbrev invariant_loop : tie.invariant-loop-i
+invariant_loop src at i₀ i = Same src quote_string at quote_string i
 
-abbrev decreases_loop : tie.decreases-loop
+abbrev decreases_loop : tie.decreases-loop-i
 decreases_loop src at i₀ i = length src - i
 
 pub quote_string_spec : {M : Type 1} → statement M

@@ -28,10 +28,10 @@ module _ (s : List ℕ) (at i : ℕ) (k : Same s whitespace at whitespace i) whe
     unfolding kind_of
     stops z = same_stop s whitespace at whitespace i k h (whitespace_stops _ r e z)
 
-abbrev invariant_loop : tie.invariant-loop
+abbrev invariant_loop : tie.invariant-loop-i
 invariant_loop src table at i₀ i = Same src whitespace at whitespace i
 
-abbrev decreases_loop : tie.decreases-loop
+abbrev decreases_loop : tie.decreases-loop-i
 decreases_loop src table at i₀ i = length src - i
 
 pub whitespace_spec : {M : Type 1} → statement M

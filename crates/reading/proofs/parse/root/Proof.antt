@@ -9,12 +9,12 @@ pub root_spec : {M : Type 1} → statement M
 root_spec = tie.close (tie.spec
     (λ c κs. search cases)
     (λ c κs.
-    let h = c.before.before.before.before.before.before.before.before.before.before.before.requires in
-    let x = c.before.before.before.before.before.start-node.ensures in
+    let h = c.requires in
+    let x = c.start_node-a.ensures in
     (ready_moved (begun_reading h.0 h.1) x, begun_ground h.0 h.1 x _))
     (λ c κs. search cases)
     (λ c. search cases)
     (λ c. search cases)
     (λ c.
-    let h = c.before.before.before.before.before.before.before.before.before.before.before.before.before.before.before.before.before.before.before.before.before.requires in
-    parsed_is h.0 h.1 c.before.before.before.before.before.before.before.before.before.before.before.before.before.before.before.start-node.ensures c.before.before.before.before.before.before.before.before.before.file.ensures c.before.before.finish-node.ensures))
+    let h = c.requires in
+    parsed_is h.0 h.1 c.start_node-a.ensures c.file-b.ensures c.finish_node.ensures))

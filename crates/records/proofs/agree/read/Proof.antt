@@ -25,8 +25,6 @@ read_spec =
     (λ c. search (back_within, cases))
     (λ c. search (back_long, cases))
     (λ c κs. search cases)
-    (λ c. let p = c.before.before.before.before.before.before.before.before.before.before.before.before.before.before.before.before.requires in
-    let new = c.before.before.before.before.before.before.before.before.before.before.before in
-    let back = c.before.before.before.before in
-    read_back _ _ _ _ _ _ _ _ _ _ _ _ _ _ p.0 p.1.0 p.1.1 new.before.before.numbers.ensures new.before.numbers2.ensures new.numbers3.ensures
-    back.before.before.entries2.given back.before.errors2.given back.lines2.given back.before.before.before.shader-read.ensures c.left.ensures))
+    (λ c. let p = c.requires in
+    read_back _ _ _ _ _ _ _ _ _ _ _ _ _ _ p.0 p.1.0 p.1.1 c.numbers-entries.ensures c.numbers-errors.ensures c.numbers-lines.ensures
+    c.entries-2-1.given c.errors-2-1.given c.lines-2-1.given c.shader_read-got.ensures c.left.ensures))

@@ -9,5 +9,5 @@ byte_spec =
     tie.close
     (tie.spec
     (λ c. search cases)
-    (λ c. omega (arith, c.shared-slice-known.given c.before.args.at))
-    (λ c. (search cases, omega (arith, c.shared-slice-known.given c.before.args.at))))
+    (λ c. omega (arith, c.shared_slice_known-1.given c.args.at))
+    (λ c. (search cases, omega (arith, c.shared_slice_known-1.given c.args.at))))

@@ -7,10 +7,10 @@ use Rattle.records.proofs.Decoding.{Decoding, decode_none, decode_more, decode_l
 use Rattle.records.proofs.number.decode.Statement.{statement}
 use Rattle.records.proofs.number.decode.Tie as tie
 
-abbrev invariant_loop : tie.invariant-loop
+abbrev invariant_loop : tie.invariant-loop-at
 invariant_loop s t₀ n₀ at₀ t n at = Decoding s t₀ t n at
 
-abbrev decreases_loop : tie.decreases-loop
+abbrev decreases_loop : tie.decreases-loop-at
 decreases_loop s t₀ n₀ at₀ t n at = length s - at
 
 pub decode_spec : {M : Type 1} → statement M
@@ -27,5 +27,5 @@ decode_spec =
     (λ c. search cases)
     (λ c. search cases)
     (λ c. search (decode_more, cases))
-    (λ c. omega (arith, decode_long _ _ _ _ _ c.before.loop.invariant))
+    (λ c. omega (arith, decode_long _ _ _ _ _ c.loop-at.invariant))
     (λ c. search (decode_all, cases)))

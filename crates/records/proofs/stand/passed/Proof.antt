@@ -6,10 +6,10 @@ use Rattle.records.proofs.Standing.{Passing, pass_none, pass_more, pass_all}
 use Rattle.records.proofs.stand.passed.Statement.{statement}
 use Rattle.records.proofs.stand.passed.Tie as tie
 
-abbrev invariant_loop : tie.invariant-loop
+abbrev invariant_loop : tie.invariant-loop-i
 invariant_loop t s at place₀ i₀ place i = Passing t s at place i
 
-abbrev decreases_loop : tie.decreases-loop
+abbrev decreases_loop : tie.decreases-loop-i
 decreases_loop t s at place₀ i₀ place i = length t - i
 
 pub passed_spec : {M : Type 1} → statement M

@@ -11,4 +11,4 @@ pp_body_spec = tie.close (tie.spec
     (λ c κs. search cases)
     (λ c κs. search cases)
     (λ c. search cases)
-    (λ c. body_is _ _ _ _ _ c.before.before.before.before.before.before.before.before.before.before.before.before.before.before.skip_trivia.ensures _ _ _ _ _ _ _ c.before.before.before.before.before.before.before.before.row-node.ensures c.before.before.before.eat.ensures _ c.run_of.ensures))
+    (λ c. body_is _ _ _ _ _ c.skip_trivia-a.ensures _ _ _ _ _ _ _ c.row_node-r.ensures c.eat-held.ensures _ c.run_of-after.ensures))

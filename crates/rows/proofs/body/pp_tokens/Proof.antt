@@ -9,11 +9,11 @@ use Rattle.rows.proofs.Tokens.{RowLeading, row_start, tokens_end, tokens_first, 
 use Rattle.rows.proofs.body.pp_tokens.Statement.{statement}
 use Rattle.rows.proofs.body.pp_tokens.Tie as tie
 
-abbrev invariant_loop : tie.invariant-loop
+abbrev invariant_loop : tie.invariant-loop-x
 invariant_loop src classes table₀ levels₀ held₀ q₀ table levels held q =
     RowLeading src (row_from (writer table₀ levels₀ held₀) (unread src q₀.first)) table₀ table levels held q
 
-abbrev decreases_loop : tie.decreases-loop
+abbrev decreases_loop : tie.decreases-loop-x
 decreases_loop src classes table₀ levels₀ held₀ q₀ table levels held q = length (unread src q.first)
 
 pub pp_tokens_spec : {M : Type 1} → statement M
@@ -29,9 +29,9 @@ pp_tokens_spec = tie.close (tie.spec
     (λ c. search (tokens_first, cases))
     (λ c κs. search cases)
     (λ c κs. search cases)
-    (λ c κs. (record { table = c.before.before.before.before.before.before.before.before.before.before.before.before.before.before.before.before.before.before.requires.table; short = c.before.before.before.before.before.before.before.before.before.before.before.before.before.before.before.before.before.before.requires.short; passed = c.before.before.before.before.before.behind.ensures.passed }, c.before.before.if3.true))
-    (λ c. omega (arith, c.before.table3.given, c.before.before.before.before.before.before.before.before.before.before.table2.given, c.before.before.before.before.before.before.before.before.before.before.before.before.before.before.before.before.before.before.loop.invariant.long))
-    (λ c. tokens_wrap c.before.before.before.before.before.before.before.before.before.before.before.before.before.before.before.before.before.before.loop.invariant c.before.before.before.before.before.before.before.before.before.before.before.before.before.before.before.before.ends-row.ensures c.before.before.before.before.before.before.before.before.before.before.before.before.before.before.before.if1.false c.before.before.before.before.before.before.before.before.behind.ensures c.before.before.before.before.before.before.before.before.before.before.before.before.before.if2.false c.before.before.before.before.before.before.before.before.before.before.before.eat.ensures c.before.before.before.before.before.if3.true c.before.before.wrapping-concat.ensures)
+    (λ c κs. (record { table = c.before.before.before.before.before.before.before.before.before.before.before.before.before.before.before.before.before.before.requires.table; short = c.before.before.before.before.before.before.before.before.before.before.before.before.before.before.before.before.before.before.requires.short; passed = c.behind-q.ensures.passed }, c.if-y-eq-PP_CONCAT_OP.true))
+    (λ c. omega (arith, c.table-then-y-eq-PP_CONCAT_OP-1.given, c.table-in-loop-x-1.given, c.loop-x.invariant.long))
+    (λ c. tokens_wrap c.loop-x.invariant c.ends_row.ensures c.if-ends_row.false c.behind-q.ensures c.if-x-eq-PP_CONCAT_OP.false c.eat-held.ensures c.if-y-eq-PP_CONCAT_OP.true c.wrapping_concat.ensures)
     (λ c κs. search cases)
-    (λ c. tokens_fewer c.before.before.before.before.before.before.before.before.before.before.before.before.before.before.before.before.before.loop.invariant c.before.before.before.before.before.before.before.before.before.before.before.before.before.before.before.ends-row.ensures c.before.before.before.before.before.before.before.before.before.before.before.before.before.before.if1.false c.before.before.before.before.before.before.before.behind.ensures)
-    (λ c. tokens_more c.before.before.before.before.before.before.before.before.before.before.before.before.before.before.before.before.before.loop.invariant c.before.before.before.before.before.before.before.before.before.before.before.before.before.before.before.ends-row.ensures c.before.before.before.before.before.before.before.before.before.before.before.before.before.before.if1.false c.before.before.before.before.before.before.before.behind.ensures c.before.before.before.before.before.before.before.before.before.before.before.before.if2.false c.before.before.before.before.before.before.before.before.before.before.eat.ensures c.before.before.before.before.if3.false c.before.before.leaf.ensures c.before.before.before.before.before.before.before.before.before.table2.given c.before.table4.given))
+    (λ c. tokens_fewer c.loop-x.invariant c.ends_row.ensures c.if-ends_row.false c.behind-q.ensures)
+    (λ c. tokens_more c.loop-x.invariant c.ends_row.ensures c.if-ends_row.false c.behind-q.ensures c.if-x-eq-PP_CONCAT_OP.false c.eat-held.ensures c.if-y-eq-PP_CONCAT_OP.false c.leaf-held.ensures c.table-in-loop-x-1.given c.table-in-loop-x-2-1.given))

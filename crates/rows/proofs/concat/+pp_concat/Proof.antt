@@ -30,11 +30,11 @@ pp_concat_at t = and 4 pp_concat_kinds.ps (is 4 pp_concat_kinds.ps μ_pp_concat 
 abbrev pp_concat_below : ℕ → In 4 pp_concat_kinds.ps
 pp_concat_below t = and 4 pp_concat_kinds.ps (falls 4 pp_concat_kinds.ps ◌<◌ μ_pp_concat t) pp_concat.Pre
 
-abbrev pp_concat_Inv_loop : pp_concat_lts.invariant_loop
+abbrev pp_concat_Inv_loop : pp_concat_lts.invariant-loop-next
 pp_concat_Inv_loop src classes table₀ levels₀ allowance held₀ y₀ over₀ table levels held y over =
     Leading src allowance (concat_from src (writer table₀ levels₀ held₀) allowance y₀) table₀ table levels held y over
 
-abbrev pp_concat_μ_loop : pp_concat_lts.decreases_loop
+abbrev pp_concat_μ_loop : pp_concat_lts.decreases-loop-next
 pp_concat_μ_loop src classes table₀ levels₀ allowance held₀ y₀ over₀ table levels held y over = length (unread src y)
 
 pub +pp_concat_spec : {M : Type 1} → statement M
@@ -69,9 +69,9 @@ pub +pp_concat_spec : {M : Type 1} → statement M
     (λ c. search (concat_over, cases))
     (λ c κs. search cases)
     (λ c. search cases)
-    (λ c κs. (omega (arith, c.before.before.before.before.before.before.before.before.before.before.before.before.before.before.before.before.before.before.before.before.before.before.before.before.before.requires.0, c.before.before.before.before.before.before.before.if3.false), (record { table = c.before.before.before.before.before.before.before.before.before.before.before.before.before.before.before.before.before.before.before.before.before.before.before.before.before.requires.1.0.table; short = c.before.before.before.before.before.before.before.before.before.before.before.before.before.before.before.before.before.before.before.before.before.before.before.before.before.requires.1.0.short; held = c.before.before.before.before.before.before.before.before.before.before.before.before.before.before.before.before.before.behind.ensures.passed.next_held }, c.before.before.before.before.before.before.before.before.if2.true)))
+    (λ c κs. (omega (arith, c.before.before.before.before.before.before.before.before.before.before.before.before.before.before.before.before.before.before.before.before.before.before.before.before.before.requires.0, c.if-allowance-eq0.false), (record { table = c.before.before.before.before.before.before.before.before.before.before.before.before.before.before.before.before.before.before.before.before.before.before.before.before.before.requires.1.0.table; short = c.before.before.before.before.before.before.before.before.before.before.before.before.before.before.before.before.before.before.before.before.before.before.before.before.before.requires.1.0.short; held = c.behind-p.ensures.passed.next_held }, c.if-next-eq-PP_CONCAT_OP.true)))
     (λ c κs. search cases)
-    (λ c. omega (arith, c.before.table5.given, c.before.before.before.before.before.before.table4.given, c.before.before.before.before.before.before.before.before.before.before.before.table3.given, c.before.before.before.before.before.before.before.before.before.before.before.before.before.before.before.before.before.before.before.table2.given, c.before.before.before.before.before.before.before.before.before.before.before.before.before.before.before.before.before.before.before.before.before.before.before.before.before.before.before.table.given, c.before.before.before.before.before.before.before.before.before.before.before.before.before.before.before.before.before.before.before.before.before.before.before.before.before.before.before.before.before.before.loop.invariant.long))
-    (λ c. concat_inner c.before.before.before.before.before.before.before.before.before.before.before.before.before.before.before.before.before.before.before.before.before.before.before.before.before.before.before.before.before.before.loop.invariant c.before.before.before.before.before.before.before.before.before.before.before.before.before.before.before.before.before.before.before.before.before.before.before.before.before.before.before.before.leaf.ensures c.before.before.before.before.before.before.before.before.before.before.before.before.before.before.before.before.before.before.before.before.before.before.before.before.before.behind.ensures c.before.before.before.before.before.before.before.before.before.before.before.before.before.before.before.before.before.before.before.before.before.before.before.ends-row.ensures c.before.before.before.before.before.before.before.before.before.before.before.before.before.before.before.before.before.before.before.before.before.before.if1.false c.before.before.before.before.before.before.before.before.before.before.before.before.before.before.before.before.before.before.before.before.eat.ensures c.before.before.before.before.before.before.before.before.before.before.before.before.before.before.before.before.if2.true c.before.before.before.before.before.before.before.before.before.before.before.before.before.before.before.if3.false c.before.before.before.before.before.before.before.before.before.before.before.before.start-node.ensures c.before.before.before.before.before.before.before.pp_concat.ensures c.before.before.finish-row.ensures)
+    (λ c. omega (arith, c.table-then-next-eq-PP_CONCAT_OP-3-1.given, c.table-then-next-eq-PP_CONCAT_OP-2-1.given, c.table-then-next-eq-PP_CONCAT_OP-1.given, c.table-in-loop-next-1.given, c.table-1.given, c.loop-next.invariant.long))
+    (λ c. concat_inner c.loop-next.invariant c.leaf-b.ensures c.behind-p.ensures c.ends_row.ensures c.if-ends_row.false c.eat-held.ensures c.if-next-eq-PP_CONCAT_OP.true c.if-allowance-eq0.false c.start_node-a.ensures c.pp_concat-r.ensures c.finish_row.ensures)
     (λ c. search (concat_fewer, cases))
     (λ c. search (concat_plain, cases))

@@ -11,4 +11,4 @@ rest_of_concat_spec = tie.close (tie.spec
     (λ c κs. search cases)
     (λ c κs. search cases)
     (λ c. search cases)
-    (λ c. pasting_read _ _ _ _ _ _ _ _ _ _ _ _ _ c.before.before.before.before.before.before.before.before.before.before.before.before.before.before.before.before.requires.0.passed c.before.before.before.before.before.before.before.before.before.before.before.before.before.before.before.before.requires.1 c.before.before.before.before.before.before.before.before.before.before.before.before.eat.ensures c.before.before.before.before.before.before.before.pp_concat.ensures c.before.before.finish-row.ensures))
+    (λ c. pasting_read _ _ _ _ _ _ _ _ _ _ _ _ _ c.before.before.before.before.before.before.before.before.before.before.before.before.before.before.before.before.requires.0.passed c.before.before.before.before.before.before.before.before.before.before.before.before.before.before.before.before.requires.1 c.eat-held.ensures c.pp_concat-r.ensures c.finish_row.ensures))

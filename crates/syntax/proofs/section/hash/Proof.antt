@@ -12,5 +12,5 @@ hash_spec = tie.close (tie.spec
     (λ c κs. search rules)
     (λ c κs. search rules)
     (λ c κs. search rules)
-    (λ c. omega (arith, c.before.before.before.table3.given, c.before.before.before.before.before.before.before.table2.given, c.before.before.before.before.before.before.before.before.before.before.before.table.given))
-    (λ c. front_took c.before.before.before.before.before.before.before.before.before.before.before.before.before.before.before.before.before.before.before.requires c.before.before.before.before.before.before.before.before.before.before.before.before.eat-trivia.ensures c.before.before.before.before.before.before.before.before.leaf.ensures c.before.before.before.before.eat-trivia2.ensures c.before.run_of.ensures c.with-run.ensures))
+    (λ c. omega (arith, c.table-3-1.given, c.table-2-1.given, c.table-1.given))
+    (λ c. front_took c.before.before.before.before.before.before.before.before.before.before.before.before.before.before.before.before.before.before.before.requires c.eat_trivia-a.ensures c.leaf-b.ensures c.eat_trivia-c.ensures c.run_of.ensures c.with_run.ensures))

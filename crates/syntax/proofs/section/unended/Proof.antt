@@ -14,4 +14,4 @@ unended_spec = tie.close (tie.spec
     (λ c κs. search rules)
     (λ c. search rules)
     (λ c. search rules)
-    (λ c. line_of_unended c.before.before.before.before.before.before.before.before.before.before.before.before.before.before.before.before.before.before.before.requires c.before.before.before.before.before.before.before.before.before.before.before.before.before.before.before.peek.ensures c.before.before.before.before.before.before.before.before.before.before.before.before.before.pp_rs_ident.ensures c.before.before.before.before.before.before.before.before.before.before.with_run.ensures c.before.before.before.before.before.before.before.before.before.end_of_input.ensures c.before.before.before.before.before.before.before.push-error.ensures c.before.before.finish-node.ensures))
+    (λ c. line_of_unended c.before.before.before.before.before.before.before.before.before.before.before.before.before.before.before.before.before.before.before.requires c.peek-x.ensures c.pp_rs_ident-run.ensures c.with_run-a.ensures c.end_of_input-e.ensures c.push_error-b.ensures c.finish_node.ensures))

@@ -12,4 +12,4 @@ word_of_spec = tie.close (tie.spec
     (λ c. text_from _ _ c.before.before.before.requires)
     (λ c. text_to _ _ c.before.before.before.requires)
     (λ c κs. search rules)
-    (λ c. rw (text_is _ _ c.before.before.before.before.before.requires) c.find-word.ensures))
+    (λ c. rw (text_is _ _ c.before.before.before.before.before.requires) c.find_word.ensures))

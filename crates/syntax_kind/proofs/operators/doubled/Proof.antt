@@ -15,13 +15,13 @@ unfolding glued_kind glued every listed
 doubled_spec =
     tie.close
     (tie.spec
-    (λ c. rw c.match.keys1)
-    (λ c. rw c.match.keys2)
-    (λ c. rw c.match.keys3)
-    (λ c. rw c.match.keys4)
-    (λ c. rw c.match.keys5)
-    (λ c. rw c.match.keys6)
-    (λ c. rw c.match.keys7)
-    (λ c. rw c.match.keys8)
-    (λ c. rw c.match.keys9)
-    (λ c. let a : ℕ = c.before.args.a in none_kind a a (last_arm (λ a b. a) eqb glues refl a a (eq-eqb a a refl) c.match.rest)))
+    (λ c. rw c.in-10.is)
+    (λ c. rw c.in-11.is)
+    (λ c. rw c.in-5.is)
+    (λ c. rw c.in-6.is)
+    (λ c. rw c.in-22.is)
+    (λ c. rw c.in-20.is)
+    (λ c. rw c.in-19.is)
+    (λ c. rw c.in-18.is)
+    (λ c. rw c.in-28.is)
+    (λ c. let a : ℕ = c.before.args.a in none_kind a a (last_arm (λ a b. a) eqb glues refl a a (eq-eqb a a refl) c.in_default.in_default-own.rest)))

@@ -15,9 +15,9 @@ unfolding pasted_kind glued every listed
 digits_spec =
     tie.close
     (tie.spec
-    (λ c. rw c.match.keys1)
-    (λ c. rw c.match.keys2)
-    (λ c. rw c.match.keys3)
-    (λ c. rw c.match.keys4)
-    (λ c. rw c.match.keys5)
-    (λ c. let r : ℕ = c.before.args.rhs in no_step Kind.DIGITS r (last_arm (λ a b. b) (λ a b. eqb a Kind.DIGITS) pastes refl Kind.DIGITS r refl c.match.rest)))
+    (λ c. rw c.in-1.is)
+    (λ c. rw c.in-3.is)
+    (λ c. rw c.in-4.is)
+    (λ c. rw c.in-6.is)
+    (λ c. rw c.in-5.is)
+    (λ c. let r : ℕ = c.before.args.rhs in no_step Kind.DIGITS r (last_arm (λ a b. b) (λ a b. eqb a Kind.DIGITS) pastes refl Kind.DIGITS r refl c.in_default.in_default-own.rest)))

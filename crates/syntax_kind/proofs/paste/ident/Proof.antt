@@ -15,7 +15,7 @@ unfolding pasted_kind glued every listed
 ident_spec =
     tie.close
     (tie.spec
-    (λ c. rw c.match.keys1)
-    (λ c. rw c.match.keys2)
-    (λ c. rw c.match.keys3)
-    (λ c. let r : ℕ = c.before.args.rhs in no_step Kind.IDENT_KW r (last_arm (λ a b. b) (λ a b. eqb a Kind.IDENT_KW) pastes refl Kind.IDENT_KW r refl c.match.rest)))
+    (λ c. rw c.in-2.is)
+    (λ c. rw c.in-1.is)
+    (λ c. rw c.in-3.is)
+    (λ c. let r : ℕ = c.before.args.rhs in no_step Kind.IDENT_KW r (last_arm (λ a b. b) (λ a b. eqb a Kind.IDENT_KW) pastes refl Kind.IDENT_KW r refl c.in_default.in_default-own.rest)))

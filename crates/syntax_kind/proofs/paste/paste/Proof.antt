@@ -8,12 +8,12 @@ use Rattle.syntax_kind.proofs.paste.paste.Tie as tie
 pub paste_spec : {M : Type 1} → statement M
 paste_spec = tie.close (tie.spec
     (λ c κs. search rules)
-    (λ c. left_refused _ _ (sym c.before.no_kind.ensures ∙ c.if1.true))
+    (λ c. left_refused _ _ (sym c.no_kind.ensures ∙ c.if-no_kind.true))
     (λ c κs. search rules)
-    (λ c. right_refused _ _ (sym c.before.before.before.no_kind.ensures ∙ c.before.before.if1.false) (sym c.before.no-kind2.ensures ∙ c.if2.true))
+    (λ c. right_refused _ _ (sym c.no_kind.ensures ∙ c.if-no_kind.false) (sym c.no_kind-2.ensures ∙ c.if-no_kind-2.true))
     (λ c. search rules)
     (λ c. search rules)
     (λ c κs. search rules)
     (λ c. search rules)
-    (λ c. pasted _ _ (sym c.before.before.before.before.no_kind.ensures ∙ c.before.before.before.if1.false)
-    (sym c.before.before.no-kind2.ensures ∙ c.before.if2.false) _ c.pasted-kind.ensures))
+    (λ c. pasted _ _ (sym c.no_kind.ensures ∙ c.if-no_kind.false)
+    (sym c.no_kind-2.ensures ∙ c.if-no_kind-2.false) _ c.pasted_kind-kind.ensures))

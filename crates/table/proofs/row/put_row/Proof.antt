@@ -40,10 +40,10 @@ module _ (row t₀ : List ℕ) (n : ℕ) (t : List ℕ) (i : ℕ) (k : Putting r
   done : length row ≤ i → page t (n + length row) ≡ put row (page t₀ n)
   done h = ap (λ l. page l (n + length row)) (ap (sets t (n + i)) (sym (drop_of_length-le row h)) ∙ k.rest) ∙ sym (put_in row t₀ n k.room)
 
-abbrev invariant_loop : tie.invariant-loop
+abbrev invariant_loop : tie.invariant-loop-i
 invariant_loop table₀ n row i₀ table i = Putting row table₀ n table i
 
-abbrev decreases_loop : tie.decreases-loop
+abbrev decreases_loop : tie.decreases-loop-i
 decreases_loop table₀ n row i₀ table i = length row - i
 
 pub put_row_spec : {M : Type 1} → statement M

@@ -23,4 +23,4 @@ newline_at_spec =
     (λ c. search cases)
     (λ c κs. search cases)
     (λ c κs. search cases)
-    (λ c. search (here, c.before.before.shared-slice-known2.given c.before.before.before.before.before.args.at, cases)))
+    (λ c. search (here, c.shared_slice_known-2-1.given c.before.before.before.before.before.args.at, cases)))

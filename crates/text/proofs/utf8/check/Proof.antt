@@ -43,10 +43,10 @@ module _ (src : List ℕ) (s : State) (i : ℕ) (k : Checking src s i) where
   no_byte : (l : Left) → length src ≤ i → told l ≡ left (wants s) [] → told l ≡ left [] src
   no_byte l h e = e ∙ sym (k.rest ∙ left_end src (wants s) i h)
 
-abbrev invariant_loop : tie.invariant-loop
+abbrev invariant_loop : tie.invariant-loop-i
 invariant_loop src s₀ i₀ s i = Checking src s i
 
-abbrev decreases_loop : tie.decreases-loop
+abbrev decreases_loop : tie.decreases-loop-i
 decreases_loop src s₀ i₀ s i = length src - i
 
 pub check_spec : {M : Type 1} → statement M

@@ -6,10 +6,10 @@ use Rattle.text.proofs.Stretches.{Gathering, gather_none, gather_more, gather_al
 use Rattle.text.proofs.utf8.largest.Statement.{statement}
 use Rattle.text.proofs.utf8.largest.Tie as tie
 
-abbrev invariant_loop : tie.invariant-loop
+abbrev invariant_loop : tie.invariant-loop-k
 invariant_loop src at m₀ k₀ m k = Gathering ascii_look src at k m
 
-abbrev decreases_loop : tie.decreases-loop
+abbrev decreases_loop : tie.decreases-loop-k
 decreases_loop src at m₀ k₀ m k = ascii_look.size - k
 
 pub largest_spec : {M : Type 1} → statement M

@@ -8,10 +8,10 @@ use Rattle.text.proofs.Stretches.{stretch_more}
 use Rattle.text.proofs.utf8.next_high.Statement.{statement}
 use Rattle.text.proofs.utf8.next_high.Tie as tie
 
-abbrev invariant_loop : tie.invariant-loop
+abbrev invariant_loop : tie.invariant-loop-i
 invariant_loop src at i₀ i = Passing ascii_look src at i
 
-abbrev decreases_loop : tie.decreases-loop
+abbrev decreases_loop : tie.decreases-loop-i
 decreases_loop src at i₀ i = length src - i
 
 pub next_high_spec : {M : Type 1} → statement M

@@ -9,10 +9,10 @@ use Rattle.text.proofs.Ascii.{ascii_fair}
 use Rattle.text.proofs.utf8.pass_steps.Statement.{statement}
 use Rattle.text.proofs.utf8.pass_steps.Tie as tie
 
-abbrev invariant_loop : tie.invariant-loop
+abbrev invariant_loop : tie.invariant-loop-i
 invariant_loop src at i₀ i = Passing ascii_look src at i
 
-abbrev decreases_loop : tie.decreases-loop
+abbrev decreases_loop : tie.decreases-loop-i
 decreases_loop src at i₀ i = length src - i
 
 pub pass_steps_spec : {M : Type 1} → statement M
