@@ -1,4 +1,6 @@
 // The argument list of a `define` (`syntax.rs`).
+#![tactic(auto)]
+
 ghost use Rattle.std.specs.Prelude.{◌≡◌, true, length};
 ghost use Rattle.definition.specs.Syntax.{wanted, args, define_args as Syntax·define_args};
 ghost use Rattle.parser.specs.Rest.{Reading};

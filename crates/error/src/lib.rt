@@ -1,4 +1,6 @@
 // The error log: errors as they are met, written into a lent table of ten numbers each (error.rs).
+#![tactic(auto)]
+
 pub mod lines;
 
 ghost use Rattle.std.specs.Prelude.{◌≡◌, ◌/◌};

@@ -1,4 +1,6 @@
 // The parser's hold on its leaves: the one that is seen, taking it, and passing over trivia (`parser.rs`).
+#![tactic(auto)]
+
 pub mod trivia;
 
 ghost use Rattle.std.specs.Prelude.{◌≡◌, ◌≤◌, length};

@@ -1,4 +1,6 @@
 // What a directive reads with (`ParserRun` of `parser.rs`): the leaf that is seen, nodes, errors, and leaves that are expected.
+#![tactic(auto)]
+
 pub mod fault;
 
 ghost use Rattle.std.specs.Prelude.{◌≡◌, false, ◌||◌, length};

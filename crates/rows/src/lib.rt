@@ -1,4 +1,6 @@
 // The rows of leaves that directives end with, and the bodies over them (`syntax.rs`: `pp_tokens`, `pp_concat`).
+#![tactic(auto)]
+
 pub mod body;
 pub mod concat;
 

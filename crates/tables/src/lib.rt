@@ -1,4 +1,6 @@
 // The tables of a reading as it leaves them: cleared if it is refused, else cleared behind their last numbers.
+#![tactic(auto)]
+
 pub mod body;
 
 ghost use Rattle.std.specs.Prelude.{◌≡◌, ◌≤◌, length};

@@ -7,13 +7,13 @@ use native.Mathlib.Omega.{arith}
 use native.Mathlib.Decide.{dec_lt}
 use lib.Dec.{eqb, leb}
 use lib.ListN.{length, take, drop, get_or}
-use borrow.Author.Tests.{eqb-true, eqb-false, leb-true, eq-eqb, not-true}
+use borrow.Author.Tests.{eqb-false, leb-true, eq-eqb, not-true}
 use Rattle.definition.specs.Text.{ascii, byte}
 use Rattle.definition.specs.SyntaxKind.{Kind}
 use Rattle.definition.specs.Newline.{blank, class}
 use Rattle.definition.specs.Pre.{State, done, ident, whitespace, digits, find, begin, flag}
 use Rattle.theorems.specs.Walk.{name_kind}
-use Rattle.theorems.specs.Step.{Stepped, PreStepped, Gluing, glued_kind}
+use Rattle.theorems.specs.Step.{Stepped, PreStepped, Gluing}
 use Rattle.theorems.proofs.Lexing.Glues.{every, Settled, settled_none, other_none, none_kind}
 use Rattle.theorems.proofs.Lexing.Gluing.{glue_start}
 use Rattle.theorems.proofs.Lexing.PreAt.{glue_over, glue_settled}

@@ -1,4 +1,6 @@
 // Text lines: their leaves go straight from the source into the table, line after line.
+#![tactic(auto)]
+
 ghost use Rattle.std.specs.Prelude.{◌≡◌, true, ◌≤◌, ◌<◌, length, get_or};
 ghost use Rattle.definition.specs.Calls.{longest_source};
 ghost use Rattle.theorems.specs.LeavesFrom.{leaves_from};

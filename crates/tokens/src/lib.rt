@@ -1,4 +1,6 @@
 // The listing of glued tokens: kind, start and end of each, angle strings never expected.
+#![tactic(auto)]
+
 ghost use Rattle.std.specs.Prelude.{◌≡◌, false, ◌≤◌, ◌<◌, length};
 ghost use Rattle.definition.specs.Glue.{tokens, token_numbers};
 ghost use Rattle.definition.specs.Calls.{longest_source, listing_tokens};

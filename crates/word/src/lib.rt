@@ -1,4 +1,6 @@
 // Which directive a word is.
+#![tactic(auto)]
+
 ghost use Rattle.std.specs.Prelude.{◌≡◌, ℕ};
 ghost use Rattle.definition.specs.Text.{same};
 ghost use Rattle.definition.specs.Unescaped.{unescaped};

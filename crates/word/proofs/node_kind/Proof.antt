@@ -1,5 +1,5 @@
 -- `node_kind` is what the table says.
-use mathlib.Core.Path.{refl, sym, ap}
+use mathlib.Core.Path.{refl}
 use Rattle.definition.specs.Syntax.{directives}
 use Rattle.word.specs.Word.{row_at, directive_at}
 use Rattle.word.proofs.Search.{no_directive}

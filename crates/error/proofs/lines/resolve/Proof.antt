@@ -1,5 +1,4 @@
 -- `resolve` fills in the lines and the columns of errors.
-use Prim.Native.Nat.{◌-◌}
 use lib.ListN.{take}
 use Rattle.text.proofs.Cases.{cases}
 use Rattle.error.proofs.Resolving.{Resolving, begin, full, over, one_more}
