@@ -1,4 +1,5 @@
 -- The loop over an argument list, and the node over it.
+use Rattle.std.specs.Prelude.{if◌then◌else◌}
 use Prim.Native.Nat.{ℕ, suc, ◌≤◌, ◌<◌}
 use native.Mathlib.Omega.{arith}
 use mathlib.Core.Path.{◌≡◌, refl, sym, ap, ◌∙◌}
@@ -7,7 +8,7 @@ use mathlib.Core.List.{List, [], ◌∷◌, ◌++◌}
 use borrow.Author.Tests.{eqb-false}
 use lib.Dec.{eqb}
 use lib.ListN.{length}
-use Rattle.definition.specs.Text.{if◌then◌else◌, Kind}
+use Rattle.definition.specs.Text.{Kind}
 use Rattle.definition.specs.Tree.{Leaf, Forest, nil, node}
 use Rattle.definition.specs.Error.{Err}
 use Rattle.definition.specs.Parser.{trivia, after, peek, Got, Reader, ◌then◌, wrap, skip, skip_trivia, bump}

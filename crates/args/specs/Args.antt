@@ -1,6 +1,6 @@
 -- The argument list of a `define`, one place after the other; first: an identifier's place, else a comma's.
-use Rattle.std.specs.Prelude.{ℕ, ◌≡◌, Bool, true, false, ◌||◌, ◌&&◌, List, [], ◌∷◌, eqb}
-use Rattle.definition.specs.Text.{if◌then◌else◌, Kind}
+use Rattle.std.specs.Prelude.{ℕ, ◌≡◌, Bool, true, false, ◌||◌, ◌&&◌, List, [], ◌∷◌, eqb, if◌then◌else◌}
+use Rattle.definition.specs.Text.{Kind}
 use Rattle.definition.specs.Parser.{is, peek, Got, Reader, wrap, bump}
 use Rattle.definition.specs.Syntax.{wanted}
 use Rattle.theorems.specs.BodyRows.{ends}

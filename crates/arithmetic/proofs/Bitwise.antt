@@ -1,4 +1,5 @@
 -- The bits of a value are the machine's.
+use Rattle.std.specs.Prelude.{if◌then◌else◌}
 use Prim.Native.Nat.{ℕ, suc, ◌-◌, ◌^◌, ◌<◌}
 use mathlib.Core.Path.{◌≡◌, refl, sym, ◌∙◌}
 use mathlib.Core.Bool.{Bool, true, false}
@@ -9,7 +10,6 @@ use borrow.Author.Tests.{eqb-true, eqb-false, eq-eqb, ne_eqb}
 use mir.Syntax.{w32, w64}
 use mir.Val.{SFits, to_z, of_z, sel}
 use mir.Facts.{to_z-of_z, to_z_pos, to_z-neg}
-use Rattle.definition.specs.Text.{if◌then◌else◌}
 use Rattle.definition.specs.Condition.Value.{value, bits, signed, bitwise, flipped, is_zero, equal}
 
 bits_is : (z : ℤ) → bits z ≡ of_z w32 z

@@ -1,4 +1,5 @@
 -- What an operator makes of its sides, as answers tell them.
+use Rattle.std.specs.Prelude.{if◌then◌else◌}
 use Prim.Native.Nat.{ℕ}
 use mathlib.Core.Path.{◌≡◌, refl}
 use mathlib.Core.Bool.{Bool, true, false, ◌&&◌, ◌||◌, false≢true, and-eq-true_iff}
@@ -7,7 +8,7 @@ use mathlib.Core.Option.{Option, none, some}
 use lib.IntN.{ℤ}
 use lib.Dec.{eqb}
 use borrow.Author.Tests.{eqb-true, eq-eqb, ne_eqb}
-use Rattle.definition.specs.Text.{Kind, if◌then◌else◌}
+use Rattle.definition.specs.Text.{Kind}
 use Rattle.definition.specs.Condition.Value.{Outcome, value, refused}
 use Rattle.definition.specs.Condition.Operators.{Binary, binaries, lookup, binary}
 use Rattle.definition.specs.Condition.Meaning.{after, joins}

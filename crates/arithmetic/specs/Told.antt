@@ -1,6 +1,6 @@
 -- What an answer of the code tells, and the operator of a kind in the contracts of functions that take any kind.
-use Rattle.std.specs.Prelude.{ℤ}
-use Rattle.definition.specs.Text.{ℕ, suc, Bool, true, false, Option, none, some, eqb, if◌then◌else◌}
+use Rattle.std.specs.Prelude.{ℤ, if◌then◌else◌}
+use Rattle.definition.specs.Text.{ℕ, suc, Bool, true, false, Option, none, some, eqb}
 use Rattle.definition.specs.Condition.Value.{Outcome, value, refused}
 use Rattle.definition.specs.Condition.Operators.{Binary, Unary, binary, unary}
 use Rattle.definition.specs.Condition.Meaning.{after, joins}

@@ -1,4 +1,5 @@
 -- The answer of the call: what was read, if nothing follows it.
+use Rattle.std.specs.Prelude.{if◌then◌else◌}
 use Prim.Native.Nat.{ℕ}
 use mathlib.Core.Path.{◌≡◌, refl, sym, ap, ◌∙◌}
 use mathlib.Core.Bool.{Bool, true, false, not}
@@ -9,7 +10,6 @@ use lib.Dec.{eqb}
 use mathlib.Core.Logic.{◌↔◌}
 use native.Mathlib.Omega.{arith}
 use lib.IntN.{pos}
-use Rattle.definition.specs.Text.{if◌then◌else◌}
 use Rattle.definition.specs.Tree.{Leaf}
 use Rattle.definition.specs.Calls.{refusal, source_checks}
 use Rattle.definition.specs.Condition.Value.{ValueRefusal, Outcome, value, refused}

@@ -1,6 +1,6 @@
 -- What the readers of an expression promise: what was read and what is left, by the readers of the definition.
-use Rattle.std.specs.Prelude.{◌≤◌, ◌≡◌, length, pos}
-use Rattle.definition.specs.Text.{ℕ, Bool, true, false, List, [], ◌∷◌, Option, none, some, eqb, if◌then◌else◌, Kind}
+use Rattle.std.specs.Prelude.{◌≤◌, ◌≡◌, length, pos, ◌∷◌, if◌then◌else◌}
+use Rattle.definition.specs.Text.{ℕ, Bool, true, false, List, [], Option, none, some, eqb, Kind}
 use Rattle.definition.specs.Tree.{Leaf}
 use Rattle.definition.specs.Parser.{is}
 use Rattle.definition.specs.Calls.{longest_source}

@@ -1,8 +1,9 @@
 -- The other calls, and tables of other lengths: recorded answers of the Rust (`compare/pins.py` writes them) with 01's rules for refusals;
 -- where a source holds vertical tabs, the answer to it with tabs, and of unescaping the answer to it as it is (Req 02).
+use Rattle.std.specs.Prelude.{◌+◌, ◌-◌, ◌&&◌, ◌∷◌, ◌++◌}
 use Prim.Native.String.{String}
 use mathlib.Core.Path.{◌≡◌, refl}
-use Rattle.definition.specs.Text.{ℕ, ◌+◌, ◌-◌, Bool, true, ◌&&◌, List, [], ◌∷◌, ◌++◌, length, replicate, ascii, same}
+use Rattle.definition.specs.Text.{ℕ, Bool, true, List, [], length, replicate, ascii, same}
 use Rattle.definition.specs.SyntaxKind.{Kind as K}
 use Rattle.definition.specs.Utf8.{char_forms, follow, left, utf8, ends_inside}
 use Rattle.definition.specs.Runs.{joined, runs, grouped}

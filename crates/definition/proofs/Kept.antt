@@ -1,8 +1,9 @@
 -- The grammar of 01: a row of leaves that keeps it, clause by clause, and rows that break it.
+use Rattle.std.specs.Prelude.{◌∷◌}
 use Prim.Native.String.{String}
 use mathlib.Core.Path.{◌≡◌, refl, sym}
 use mathlib.Core.Bool.{false≢true}
-use Rattle.definition.specs.Text.{ℕ, zero, Bool, true, List, [], ◌∷◌, some, ascii, same}
+use Rattle.definition.specs.Text.{ℕ, zero, Bool, true, List, [], some, ascii, same}
 use Rattle.definition.specs.SyntaxKind.{Kind as K}
 use Rattle.definition.specs.Runs.{runs, grouped}
 use Rattle.definition.specs.Newline.{char_more, chars}

@@ -1,7 +1,8 @@
 -- Facts that pin the definition where no short input of a call does: the kinds, limits, UTF-8 and pasting.
+use Rattle.std.specs.Prelude.{◌∷◌, ◌++◌, if◌then◌else◌}
 use mathlib.Core.Path.{◌≡◌, refl}
 use mathlib.Core.Bool.{or-true}
-use Rattle.definition.specs.Text.{ℕ, zero, suc, true, false, List, [], ◌∷◌, ◌++◌, map, eqb, length, replicate, if◌then◌else◌, ascii, same}
+use Rattle.definition.specs.Text.{ℕ, zero, suc, true, false, List, [], map, eqb, length, replicate, ascii, same}
 use Rattle.definition.specs.SyntaxKind.{Kind as K}
 use Rattle.definition.specs.Utf8.{char_forms, follow, left, cut, broken, utf8, ends_inside}
 use Rattle.definition.specs.Newline.{LETTER, DIGIT, NEWLINE, WS, PUNCT, class}

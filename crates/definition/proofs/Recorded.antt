@@ -1,7 +1,8 @@
 -- Recorded answers of the Rust, for what the worked readings leave open (`compare/pins.py` writes them); where a source holds vertical
 -- tabs, the answer to it with tabs (Req 02).
+use Rattle.std.specs.Prelude.{◌∷◌, ◌++◌}
 use mathlib.Core.Path.{◌≡◌, refl}
-use Rattle.definition.specs.Text.{ℕ, true, List, [], ◌∷◌, ◌++◌, ascii}
+use Rattle.definition.specs.Text.{ℕ, true, List, [], ascii}
 use Rattle.definition.specs.SyntaxKind.{Kind as K}
 use Rattle.definition.specs.Listed.{listed}
 use Rattle.definition.proofs.Worked.{Worked, reads, answer, node, leaf, error, line, all_listed}

@@ -1,8 +1,9 @@
 -- Expressions and what they come to, computed (Req 03).
+use Rattle.std.specs.Prelude.{◌-◌, ◌&&◌, ◌∷◌, ◌++◌}
 use Prim.Native.Nat.{◌^◌}
 use Prim.Native.String.{String}
 use mathlib.Core.Path.{◌≡◌, refl}
-use Rattle.definition.specs.Text.{ℕ, ◌-◌, Bool, true, ◌&&◌, List, [], ◌∷◌, ◌++◌, replicate, ascii, same, byte}
+use Rattle.definition.specs.Text.{ℕ, Bool, true, List, [], replicate, ascii, same, byte}
 use Rattle.definition.specs.Listed.{value_listed}
 
 pub record Case : Type 0 where

@@ -1,7 +1,8 @@
 -- The worked readings of 01, as the program `listing` prints them, computed (`compare/pins.py` has the Rust's answers).
+use Rattle.std.specs.Prelude.{◌&&◌, ◌∷◌, ◌++◌}
 use Prim.Native.String.{String}
 use mathlib.Core.Path.{◌≡◌, refl}
-use Rattle.definition.specs.Text.{ℕ, Bool, true, ◌&&◌, List, [], ◌∷◌, ◌++◌, ascii, same}
+use Rattle.definition.specs.Text.{ℕ, Bool, true, List, [], ascii, same}
 use Rattle.definition.specs.SyntaxKind.{Kind as K}
 use Rattle.definition.specs.Listed.{listed}
 

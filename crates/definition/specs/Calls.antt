@@ -1,5 +1,6 @@
 -- The seven calls (01, "The call" and "Refused, in checking order"): each outcome, on whatever it is handed.
-use Rattle.definition.specs.Text.{ℕ, ◌-◌, Bool, false, not, ◌||◌, List, [], ◌∷◌, ◌++◌, eqb, ltb, length, replicate, if◌then◌else◌, Kind}
+use Rattle.std.specs.Prelude.{◌-◌, ◌||◌, ◌∷◌, ◌++◌, if◌then◌else◌}
+use Rattle.definition.specs.Text.{ℕ, Bool, false, not, List, [], eqb, ltb, length, replicate, Kind}
 use Rattle.definition.specs.Utf8.{utf8, ends_inside}
 use Rattle.definition.specs.Unescaped.{unescaped}
 use Rattle.definition.specs.LineMap.{line_starts, get_line_and_col, line_table}

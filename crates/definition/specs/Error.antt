@@ -1,5 +1,6 @@
 -- Errors (01, "The call": ten numbers).
-use Rattle.definition.specs.Text.{ℕ, List, [], ◌∷◌, get_or}
+use Rattle.std.specs.Prelude.{◌∷◌}
+use Rattle.definition.specs.Text.{ℕ, List, [], get_or}
 use Rattle.definition.specs.Tree.{Leaf, stop}
 use Rattle.definition.specs.LineMap.{get_line_and_col}
 

@@ -1,5 +1,6 @@
 -- Glued tokens: the third stage of the lexer (01, "Gluing and lexing"; GLSL 3.7), and pasting two kinds.
-use Rattle.definition.specs.Text.{ℕ, ◌+◌, Bool, ◌&&◌, List, [], ◌∷◌, ◌++◌, map, Option, none, some, eqb, length, if◌then◌else◌, ascii, same, Kind}
+use Rattle.std.specs.Prelude.{◌+◌, ◌&&◌, ◌∷◌, ◌++◌, if◌then◌else◌}
+use Rattle.definition.specs.Text.{ℕ, Bool, List, [], map, Option, none, some, eqb, length, ascii, same, Kind}
 use Rattle.definition.specs.Runs.{Run, text, joined, grouped}
 use Rattle.definition.specs.Newline.{chars}
 use Rattle.definition.specs.Unescaped.{unescaped_chars}

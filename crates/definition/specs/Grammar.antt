@@ -1,5 +1,6 @@
 -- The directive grammar of 01, "Directives", over leaves. `G L R` says that L begins with a G and that R follows it.
-use Rattle.definition.specs.Text.{ℕ, zero, suc, ◌≡◌, Bool, true, false, not, ◌||◌, List, [], ◌∷◌, Option, none, some, if◌then◌else◌, ascii, same, Kind}
+use Rattle.std.specs.Prelude.{◌≡◌, ◌||◌, ◌∷◌, if◌then◌else◌}
+use Rattle.definition.specs.Text.{ℕ, zero, suc, Bool, true, false, not, List, [], Option, none, some, ascii, same, Kind}
 use Rattle.definition.specs.Unescaped.{unescaped}
 use Rattle.definition.specs.Tree.{Leaf}
 use Rattle.definition.specs.Parser.{is, trivia, newline_leaf, inline, peek}

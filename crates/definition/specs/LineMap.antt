@@ -1,5 +1,6 @@
 -- The line table, and looking an offset up in one (01, "The call").
-use Rattle.definition.specs.Text.{ℕ, suc, ◌+◌, ◌-◌, Bool, true, false, ◌&&◌, List, [], ◌∷◌, eqb, leb, ltb, length, if◌then◌else◌}
+use Rattle.std.specs.Prelude.{◌+◌, ◌-◌, ◌&&◌, ◌∷◌, if◌then◌else◌}
+use Rattle.definition.specs.Text.{ℕ, suc, Bool, true, false, List, [], eqb, leb, ltb, length}
 use Rattle.definition.specs.Runs.{Run, text}
 use Rattle.definition.specs.Newline.{chars, newline}
 

@@ -1,5 +1,6 @@
 -- What the programs print, without the words: `listing` for a source (01, "Worked readings"), `values` for an expression.
-use Rattle.definition.specs.Text.{ℕ, ◌*◌, take, List, [], ◌∷◌, ◌++◌, length, ascii, same}
+use Rattle.std.specs.Prelude.{◌*◌, ◌∷◌, ◌++◌}
+use Rattle.definition.specs.Text.{ℕ, take, List, [], length, ascii, same}
 use Rattle.definition.specs.Utf8.{char_forms, follow, left, utf8, ends_inside}
 use Rattle.definition.specs.Runs.{joined, runs, grouped}
 use Rattle.definition.specs.Newline.{char_more, chars}

@@ -1,5 +1,6 @@
 -- Characters and newlines (GLSL 3.1; 01, "Gluing and lexing").
-use Rattle.definition.specs.Text.{ℕ, Bool, ◌&&◌, ◌||◌, List, [], ◌∷◌, Option, none, some, eqb, if◌then◌else◌, among, one_of, byte}
+use Rattle.std.specs.Prelude.{◌&&◌, ◌||◌, ◌∷◌, if◌then◌else◌}
+use Rattle.definition.specs.Text.{ℕ, Bool, List, [], Option, none, some, eqb, among, one_of, byte}
 use Rattle.definition.specs.Runs.{Run, grouped}
 
 abbrev pub LF : ℕ

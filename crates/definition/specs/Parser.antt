@@ -1,5 +1,6 @@
 -- Readers of leaves (01, "Directives"; `parser.rs`): what a reader takes as a row of trees, the errors it meets, and what it leaves.
-use Rattle.definition.specs.Text.{ℕ, Bool, true, false, not, ◌||◌, List, [], ◌∷◌, ◌++◌, eqb, if◌then◌else◌, Kind}
+use Rattle.std.specs.Prelude.{◌||◌, ◌∷◌, ◌++◌, if◌then◌else◌}
+use Rattle.definition.specs.Text.{ℕ, Bool, true, false, not, List, [], eqb, Kind}
 use Rattle.definition.specs.Tree.{Leaf, Forest, nil, leaf, node, row, ◌▹◌}
 use Rattle.definition.specs.Error.{Err, unexpected, end_of_input}
 

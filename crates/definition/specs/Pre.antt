@@ -1,5 +1,6 @@
 -- Pre-tokens: the second stage of the lexer, an automaton over characters (01, "Gluing and lexing"; GLSL 3.1, 3.4 to 3.7).
-use Rattle.definition.specs.Text.{ℕ, suc, Bool, true, false, ◌&&◌, ◌||◌, not, List, [], ◌∷◌, Option, none, some, eqb, if◌then◌else◌, byte, ascii, Kind}
+use Rattle.std.specs.Prelude.{◌&&◌, ◌||◌, ◌∷◌, if◌then◌else◌}
+use Rattle.definition.specs.Text.{ℕ, suc, Bool, true, false, not, List, [], Option, none, some, eqb, byte, ascii, Kind}
 use Rattle.definition.specs.Runs.{Run, grouped}
 use Rattle.definition.specs.Newline.{letter, digit, newline, blank}
 

@@ -1,5 +1,6 @@
 -- The longest match (01, "Gluing and lexing"; GLSL 3.7): a row is cut into runs, each as long as it can be. All three stages of the lexer are this one rule.
-use Rattle.definition.specs.Text.{List, [], ◌∷◌, ◌++◌, Option, none, some}
+use Rattle.std.specs.Prelude.{◌∷◌, ◌++◌}
+use Rattle.definition.specs.Text.{List, [], Option, none, some}
 
 -- A run: the state that it ended in, and what it holds, never nothing.
 pub record Run (B S : Type 0) : Type 0 where

@@ -1,5 +1,6 @@
 -- The directive reader, with the Rust's recovery (01, "Directives"; GLSL 3.3). n: where the source ends.
-use Rattle.definition.specs.Text.{ℕ, zero, suc, Bool, true, false, ◌&&◌, not, List, [], ◌∷◌, Option, none, some, length, if◌then◌else◌, ascii, same, Kind}
+use Rattle.std.specs.Prelude.{◌&&◌, ◌∷◌, if◌then◌else◌}
+use Rattle.definition.specs.Text.{ℕ, zero, suc, Bool, true, false, not, List, [], Option, none, some, length, ascii, same, Kind}
 use Rattle.definition.specs.Unescaped.{unescaped}
 use Rattle.definition.specs.Glue.{tokens}
 use Rattle.definition.specs.Tree.{Leaf, placed, bytes, stop, Forest, nil, leaf, node, row, ◌▹◌}

@@ -1,14 +1,9 @@
 -- Sources are lists of bytes; characters and words of the documents become bytes. The library's names are passed on.
-pub use Rattle.std.specs.Prelude.{ℕ, zero, suc, ◌+◌, ◌-◌, ◌*◌, ◌≡◌, Bool, true, false, not, ◌&&◌, ◌||◌, List, [], ◌∷◌, ◌++◌, map, eqb, leb, ltb, length, take, get_or, replicate}
+pub use Rattle.std.specs.Prelude.{ℕ, zero, suc, ◌+◌, ◌-◌, ◌*◌, ◌≡◌, Bool, true, false, not, ◌&&◌, ◌||◌, List, [], ◌∷◌, ◌++◌, map, eqb, leb, ltb, length, take, get_or, replicate, if◌then◌else◌}
 pub use Rattle.std.proofs.Math.Option.{Option, none, some}
 pub use Rattle.definition.specs.SyntaxKind.{Kind}
 use Prim.Native.Char.{Char, code}
 use Prim.Native.String.{String, [] as ε, ◌∷◌ as ◌◂◌}
-
-infixr 20 if◌then◌else◌
-abbrev pub if◌then◌else◌ {ℓ} : {A : Type ℓ} → Bool → A → A → A
-if true then a else b = a
-if false then a else b = b
 
 -- Whether a number lies in a range, both ends included.
 abbrev pub among : ℕ → ℕ → ℕ → Bool

@@ -1,5 +1,6 @@
 -- The tree: leaves, rows of trees, and their entries (01, "The call").
-use Rattle.definition.specs.Text.{ℕ, ◌+◌, Bool, true, false, ◌||◌, List, [], ◌∷◌, ◌++◌, eqb, length, if◌then◌else◌, Kind}
+use Rattle.std.specs.Prelude.{◌+◌, ◌||◌, ◌∷◌, ◌++◌, if◌then◌else◌}
+use Rattle.definition.specs.Text.{ℕ, Bool, true, false, List, [], eqb, length, Kind}
 use Rattle.definition.specs.Runs.{text}
 use Rattle.definition.specs.Glue.{Token}
 

@@ -1,5 +1,6 @@
 -- Unescaping (01, "Gluing and lexing"; GLSL 3.1, phase 3).
-use Rattle.definition.specs.Text.{ℕ, true, false, ◌&&◌, List, [], ◌∷◌, ◌++◌, eqb, byte}
+use Rattle.std.specs.Prelude.{◌&&◌, ◌∷◌, ◌++◌}
+use Rattle.definition.specs.Text.{ℕ, true, false, List, [], eqb, byte}
 use Rattle.definition.specs.Runs.{Run, text}
 use Rattle.definition.specs.Newline.{chars, newline}
 

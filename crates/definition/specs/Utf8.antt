@@ -1,5 +1,6 @@
 -- UTF-8, from RFC 3629, section 4.
-use Rattle.definition.specs.Text.{ℕ, Bool, true, false, List, [], ◌∷◌, Option, none, some, if◌then◌else◌, among}
+use Rattle.std.specs.Prelude.{◌∷◌, if◌then◌else◌}
+use Rattle.definition.specs.Text.{ℕ, Bool, true, false, List, [], Option, none, some, among}
 
 -- The bytes from low to high.
 pub record Span : Type 0 where

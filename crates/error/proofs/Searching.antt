@@ -1,4 +1,5 @@
 -- Binary search in a line table: the line whose start is not above the offset, while the next one's is.
+use Rattle.std.specs.Prelude.{if◌then◌else◌}
 use Prim.Native.Nat.{ℕ, zero, suc, ◌+◌, ◌-◌, ◌/◌, ◌≤◌, ◌<◌}
 use native.Mathlib.Nat.{add-zero, zero-add}
 use native.Mathlib.Omega.{arith}
@@ -9,7 +10,6 @@ use borrow.Author.Tests.{ltb-true, eqb-true, le-leb, lt-leb}
 use lib.Dec.{ltb, leb, eqb}
 use lib.ListN.{length, take, get_or}
 use lib.Seq.{length-take-le, get_or-take}
-use Rattle.definition.specs.Text.{if◌then◌else◌}
 use Rattle.definition.specs.LineMap.{LineCol, last_line, get_line_and_col, rises, line_table}
 use Rattle.error.specs.Lines.{Starts, Found}
 

@@ -1,6 +1,5 @@
 -- The lines and the columns of errors, filled in from a line table.
-use Rattle.std.specs.Prelude.{ℕ, zero, suc, ◌+◌, ◌-◌, ◌≤◌, ◌<◌, ◌≡◌, true, List, length, take, get_or, set}
-use Rattle.definition.specs.Text.{if◌then◌else◌}
+use Rattle.std.specs.Prelude.{ℕ, zero, suc, ◌+◌, ◌-◌, ◌≤◌, ◌<◌, ◌≡◌, true, List, length, take, get_or, set, if◌then◌else◌}
 use Rattle.definition.specs.Tree.{Width}
 use Rattle.definition.specs.LineMap.{get_line_and_col, line_table}
 use Rattle.table.specs.Row.{fits}

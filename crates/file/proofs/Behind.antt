@@ -1,4 +1,5 @@
 -- An item by the leaf behind its trivia, which is passed over: text, or trivia at the end of the source.
+use Rattle.std.specs.Prelude.{if◌then◌else◌}
 use Prim.Native.Nat.{ℕ, ◌<◌}
 use mathlib.Core.Path.{◌≡◌, refl, sym, ap, ◌∙◌}
 use mathlib.Core.Bool.{Bool, true, false, not, false≢true}
@@ -7,7 +8,7 @@ use native.Mathlib.Omega.{arith}
 use borrow.Author.Tests.{ne_eqb}
 use lib.Dec.{eqb}
 use lib.ListN.{length}
-use Rattle.definition.specs.Text.{if◌then◌else◌, Kind}
+use Rattle.definition.specs.Text.{Kind}
 use Rattle.definition.specs.Parser.{is, trivia, while, after, peek}
 use Rattle.theorems.specs.TextLines.{Text}
 use Rattle.theorems.proofs.Tiling.Leaves.{after_stop}

@@ -1,6 +1,6 @@
 -- What a function promises that reads some items.
-use Rattle.std.specs.Prelude.{ℕ, suc, ◌≤◌, ◌<◌, ◌≡◌, Bool, false, not, List, eqb, length}
-use Rattle.definition.specs.Text.{if◌then◌else◌, Kind}
+use Rattle.std.specs.Prelude.{ℕ, suc, ◌≤◌, ◌<◌, ◌≡◌, Bool, false, not, List, eqb, length, if◌then◌else◌}
+use Rattle.definition.specs.Text.{Kind}
 use Rattle.definition.specs.Tree.{Leaf, bytes}
 use Rattle.definition.specs.Parser.{Got, Reader, ◌then◌}
 use Rattle.definition.specs.Syntax.{relexed}

@@ -1,6 +1,6 @@
 -- What a step of the lexer promises.
-use Rattle.std.specs.Prelude.{ℕ, ◌≤◌, ◌≡◌, Bool, ◌&&◌, ◌||◌, List, eqb, ltb, length}
-use Rattle.definition.specs.Text.{if◌then◌else◌, byte}
+use Rattle.std.specs.Prelude.{ℕ, ◌≤◌, ◌≡◌, Bool, ◌&&◌, ◌||◌, List, eqb, ltb, length, if◌then◌else◌}
+use Rattle.definition.specs.Text.{byte}
 use Rattle.definition.specs.SyntaxKind.{Kind}
 use Rattle.theorems.specs.Step.{Gluing, Stepped, glued_kind}
 use Rattle.pre.specs.Table.{class_number}

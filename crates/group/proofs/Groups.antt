@@ -1,4 +1,5 @@
 -- Groups, leaf by leaf: one count of open brackets serves both loops.
+use Rattle.std.specs.Prelude.{if◌then◌else◌}
 use Prim.Native.Nat.{ℕ, zero, suc, ◌+◌, ◌-◌, ◌≤◌, ◌<◌}
 use mathlib.Core.Path.{◌≡◌, refl, sym, ap, ◌∙◌}
 use mathlib.Core.Bool.{Bool, true, false}
@@ -9,7 +10,7 @@ use native.Mathlib.Numerals.{add-one}
 use borrow.Author.Tests.{ne_eqb, eq-eqb}
 use lib.Dec.{eqb}
 use lib.ListN.{length}
-use Rattle.definition.specs.Text.{if◌then◌else◌, Kind}
+use Rattle.definition.specs.Text.{Kind}
 use Rattle.definition.specs.Tree.{Leaf, ◌▹◌, leaves}
 use Rattle.definition.specs.Calls.{longest_source}
 use Rattle.definition.specs.Parser.{is, Got, push, Reader, ◌then◌, nothing, bump}

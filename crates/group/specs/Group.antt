@@ -1,7 +1,7 @@
 -- Groups: brackets counted leaf by leaf, and whether a group closes.
-use Rattle.std.specs.Prelude.{ℕ, ◌+◌, ◌-◌, Bool, true, false, List, [], ◌∷◌, eqb}
+use Rattle.std.specs.Prelude.{ℕ, ◌+◌, ◌-◌, Bool, true, false, List, [], ◌∷◌, eqb, if◌then◌else◌}
 use Rattle.std.proofs.Math.Option.{none, some}
-use Rattle.definition.specs.Text.{if◌then◌else◌, Kind}
+use Rattle.definition.specs.Text.{Kind}
 use Rattle.definition.specs.Error.{Err}
 use Rattle.definition.specs.Parser.{Got, Reader, ◌then◌, bump}
 use Rattle.definition.specs.Syntax.{pp_rs_ident, Line}

@@ -1,6 +1,6 @@
 -- The end of a directive's line.
-use Rattle.std.specs.Prelude.{ℕ, ◌≡◌, Bool, List, [], ◌∷◌}
-use Rattle.definition.specs.Text.{if◌then◌else◌, Kind}
+use Rattle.std.specs.Prelude.{ℕ, ◌≡◌, Bool, List, [], ◌∷◌, if◌then◌else◌}
+use Rattle.definition.specs.Text.{Kind}
 use Rattle.definition.specs.Tree.{Leaf}
 use Rattle.definition.specs.Error.{Err, ErrorKind, named_error}
 use Rattle.definition.specs.Parser.{inline, while, Reader, wrap, skip}

@@ -1,4 +1,5 @@
 -- The loop that looks an offset up: the line found so far, with the starts that are left, decides the whole lookup.
+use Rattle.std.specs.Prelude.{if◌then◌else◌}
 use Prim.Native.Nat.{ℕ, suc, ◌+◌, ◌-◌, ◌≤◌, ◌<◌}
 use native.Mathlib.Numerals.{add-one}
 use native.Mathlib.Nat.{sub-zero}
@@ -10,7 +11,6 @@ use lib.Dec.{leb}
 use lib.ListN.{length, drop, get_or, drop_of_length-le}
 use lib.Seq.{drop-cons}
 use borrow.Author.Tests.{lt-ltb, le-ltb, le-leb, lt-leb, ne_eqb}
-use Rattle.definition.specs.Text.{if◌then◌else◌}
 use Rattle.definition.specs.LineMap.{LineCol, last_line, get_line_and_col, rises, line_table}
 use Rattle.definition.specs.Calls.{refusal, looking_up}
 use Rattle.line_map.specs.declared.Found.TheVariants.{At, NoTable}

@@ -1,7 +1,7 @@
 -- What is told of a reading whose tables are not handed on: its answer, and how many numbers are not 0.
-use Rattle.definition.specs.Text.{ℕ, zero, suc, List, [], ◌∷◌, eqb, if◌then◌else◌}
+use Rattle.definition.specs.Text.{ℕ, zero, suc, List, [], eqb}
 use Rattle.definition.specs.Calls.{Filled, Reading}
-use Rattle.std.specs.Prelude.{◌≡◌}
+use Rattle.std.specs.Prelude.{◌≡◌, ◌∷◌, if◌then◌else◌}
 use Rattle.tables.specs.declared.Reading as code
 use Rattle.text.specs.declared.Counted.{Counted}
 

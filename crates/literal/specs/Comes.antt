@@ -1,6 +1,6 @@
 -- What literals come to.
-use Rattle.std.specs.Prelude.{min, ◌^◌, pos}
-use Rattle.definition.specs.Text.{ℕ, Bool, ◌||◌, List, Option, none, some, eqb, byte}
+use Rattle.std.specs.Prelude.{min, ◌^◌, pos, ◌||◌}
+use Rattle.definition.specs.Text.{ℕ, Bool, List, Option, none, some, eqb, byte}
 use Rattle.definition.specs.Condition.Value.{Outcome, within}
 use Rattle.definition.specs.Condition.Literal.{number_of, literal}
 use Rattle.definition.specs.Condition.Valuing.{no_expression}

@@ -1,6 +1,6 @@
 -- A name by its place in the list.
-use Rattle.std.specs.Prelude.{◌+◌, ◌≤◌, ◌<◌, ◌≡◌, get_or}
-use Rattle.definition.specs.Text.{ℕ, List, Option, none, some, leb, length, if◌then◌else◌}
+use Rattle.std.specs.Prelude.{◌+◌, ◌≤◌, ◌<◌, ◌≡◌, get_or, if◌then◌else◌}
+use Rattle.definition.specs.Text.{ℕ, List, Option, none, some, leb, length}
 use Rattle.definition.specs.Condition.Meaning.{Name, names, first}
 
 abbrev pub name_from : List ℕ → ℕ → Name

@@ -1,4 +1,5 @@
 -- What is seen is what is left where the lexer stands.
+use Rattle.std.specs.Prelude.{if◌then◌else◌}
 use Prim.Native.Nat.{ℕ, ◌≤◌}
 use mathlib.Core.Path.{◌≡◌, refl, sym, ◌∙◌}
 use mathlib.Core.Bool.{Bool, true, false}
@@ -9,7 +10,7 @@ use mir.Val.{Fits}
 use mir.Syntax.{w32}
 use lib.Dec.{eqb}
 use lib.ListN.{length}
-use Rattle.definition.specs.Text.{if◌then◌else◌, Kind}
+use Rattle.definition.specs.Text.{Kind}
 use Rattle.definition.specs.Calls.{longest_source}
 use Rattle.theorems.specs.Step.{Stepped}
 use Rattle.theorems.specs.LeavesFrom.{leaf_kind}

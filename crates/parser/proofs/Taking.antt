@@ -1,4 +1,5 @@
 -- Taking one leaf, and writing the leaves that pass a test one after another.
+use Rattle.std.specs.Prelude.{if◌then◌else◌}
 use Prim.Native.Nat.{ℕ, ◌<◌}
 use native.Mathlib.Omega.{arith}
 use mathlib.Core.Path.{◌≡◌, refl, sym, ap, ◌∙◌}
@@ -7,7 +8,6 @@ use mathlib.Core.List.{List, [], ◌∷◌}
 use borrow.Author.Tests.{eq-eqb, ne_eqb, eqb-true, eqb-false}
 use lib.Dec.{eqb}
 use lib.ListN.{length}
-use Rattle.definition.specs.Text.{if◌then◌else◌}
 use Rattle.definition.specs.Tree.{Leaf, leaves}
 use Rattle.definition.specs.Parser.{trivia, inline, while, after, peek, bump, skip, skip_trivia}
 use Rattle.theorems.specs.LeavesFrom.{leaves_from}

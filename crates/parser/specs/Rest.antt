@@ -1,7 +1,7 @@
 -- What is left to read, and what a function promises that takes leaves.
-use Rattle.std.specs.Prelude.{ℕ, ◌≤◌, ◌<◌, ◌≡◌, Bool, ◌||◌, not, List, [], ◌∷◌, eqb, length}
+use Rattle.std.specs.Prelude.{ℕ, ◌≤◌, ◌<◌, ◌≡◌, Bool, ◌||◌, not, List, [], ◌∷◌, eqb, length, if◌then◌else◌}
 use Rattle.std.proofs.Math.Seq.{slice}
-use Rattle.definition.specs.Text.{if◌then◌else◌, Kind}
+use Rattle.definition.specs.Text.{Kind}
 use Rattle.definition.specs.Tree.{Leaf, leaves, stop}
 use Rattle.definition.specs.Parser.{Reader}
 use Rattle.definition.specs.Calls.{longest_source}

@@ -1,4 +1,5 @@
 -- The readers of one leaf: `bump` in a node, `expect_one`, `expect_any`.
+use Rattle.std.specs.Prelude.{if◌then◌else◌}
 use Prim.Native.Nat.{ℕ}
 use mathlib.Core.Path.{◌≡◌, refl, sym, ap, ◌∙◌}
 use mathlib.Core.Bool.{Bool, true, false, not, false≢true}
@@ -6,7 +7,7 @@ use mathlib.Core.List.{List, [], ◌∷◌}
 use borrow.Author.Tests.{eq-eqb, ne_eqb, eqb-true, eqb-false}
 use lib.Dec.{eqb}
 use lib.ListN.{length, get_or}
-use Rattle.definition.specs.Text.{if◌then◌else◌, Kind}
+use Rattle.definition.specs.Text.{Kind}
 use Rattle.definition.specs.Tree.{Leaf, body_kind}
 use Rattle.definition.specs.Error.{unexpected}
 use Rattle.definition.specs.Parser.{is, newline_leaf, inline, peek, push, raise, Reader, wrap, nothing, bump, maybe, expect_one}

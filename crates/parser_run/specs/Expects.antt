@@ -1,6 +1,5 @@
 -- `expect_any` as a reader: a leaf of kind a or b; b is 0 if there is one kind only.
-use Rattle.std.specs.Prelude.{ℕ, ◌≡◌, Bool, true, false, ◌||◌, List, [], ◌∷◌, eqb, length}
-use Rattle.definition.specs.Text.{if◌then◌else◌}
+use Rattle.std.specs.Prelude.{ℕ, ◌≡◌, Bool, true, false, ◌||◌, List, [], ◌∷◌, eqb, length, if◌then◌else◌}
 use Rattle.definition.specs.Tree.{Leaf}
 use Rattle.definition.specs.Error.{Err, unexpected, end_of_input}
 use Rattle.definition.specs.Parser.{is, inline, peek, raise, Reader, bump, maybe}

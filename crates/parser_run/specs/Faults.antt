@@ -1,6 +1,5 @@
 -- The errors that directives meet, as code makes them. Expected are the kinds a and b; b is 0 if there is one only.
-use Rattle.std.specs.Prelude.{ℕ, eqb}
-use Rattle.definition.specs.Text.{if◌then◌else◌}
+use Rattle.std.specs.Prelude.{ℕ, eqb, if◌then◌else◌}
 use Rattle.definition.specs.Error.{ErrorKind}
 use Rattle.error.specs.declared.Fault.{Fault}
 use Rattle.parser.specs.declared.Seen.{Seen}

@@ -1,4 +1,5 @@
 -- What the entry of a byte in the table of classes says of it.
+use Rattle.std.specs.Prelude.{◌∷◌}
 use Prim.Native.Nat.{ℕ, ◌≤◌, ◌<◌}
 use mathlib.Core.Path.{◌≡◌, refl, ◌∙◌}
 use mathlib.Core.Bool.{Bool, true, false, ◌&&◌, ◌||◌, not, false≢true, and-eq-true_iff}
@@ -6,7 +7,7 @@ use mathlib.Core.Option.{none}
 use native.Mathlib.Omega.{arith}
 use lib.Dec.{eqb, leb, ltb}
 use borrow.Author.Tests.{ne_eqb, eqb-true, eqb-false, lt-leb, leb-true, ltb-true, not-true}
-use Rattle.definition.specs.Text.{List, [], ◌∷◌, among, one_of, byte}
+use Rattle.definition.specs.Text.{List, [], among, one_of, byte}
 use Rattle.definition.specs.SyntaxKind.{Kind}
 use Rattle.definition.specs.Newline.{LF, CR, char_more, letter, digit, newlines, newline, blanks, blank, class}
 use Rattle.definition.specs.Pre.{puncts}

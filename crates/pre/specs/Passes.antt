@@ -1,6 +1,6 @@
 -- Bytes that comments and identifiers go on with, looked at several together.
-use Rattle.std.specs.Prelude.{ℕ, ◌≤◌, max, ◌≡◌, Bool, not, ◌&&◌, ◌||◌, List, eqb, leb}
-use Rattle.definition.specs.Text.{if◌then◌else◌, byte}
+use Rattle.std.specs.Prelude.{ℕ, ◌≤◌, max, ◌≡◌, Bool, not, ◌&&◌, ◌||◌, List, eqb, leb, if◌then◌else◌}
+use Rattle.definition.specs.Text.{byte}
 use Rattle.definition.specs.Newline.{letter, digit}
 use Rattle.definition.specs.Pre.{State}
 use Rattle.text.specs.Stretch.{Look}

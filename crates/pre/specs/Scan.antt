@@ -1,6 +1,6 @@
 -- What is read from a place of the source.
-use Rattle.std.specs.Prelude.{ℕ, ◌+◌, ◌-◌, Bool, not, ◌&&◌, ◌||◌, List, eqb, ltb, length, drop, take, get_or}
-use Rattle.definition.specs.Text.{if◌then◌else◌, byte}
+use Rattle.std.specs.Prelude.{ℕ, ◌+◌, ◌-◌, Bool, not, ◌&&◌, ◌||◌, List, eqb, ltb, length, drop, take, get_or, if◌then◌else◌}
+use Rattle.definition.specs.Text.{byte}
 use Rattle.definition.specs.Newline.{chars}
 use Rattle.definition.specs.Pre.{State, begin, flag}
 use Rattle.theorems.specs.Walk.{walk, name_kind}

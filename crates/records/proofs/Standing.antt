@@ -1,4 +1,5 @@
 -- Numbers that stand in a file, one after another.
+use Rattle.std.specs.Prelude.{if◌then◌else◌}
 use Prim.Native.Nat.{ℕ, ◌+◌, ◌-◌, ◌≤◌, ◌<◌}
 use native.Mathlib.Numerals.{add-one}
 use native.Mathlib.Omega.{arith}
@@ -8,7 +9,7 @@ use mathlib.Core.List.{List}
 use lib.ListN.{length, drop, get_or, drop_of_length-le}
 use lib.Seq.{drop-cons}
 use borrow.Author.Tests.{lt-ltb, le-ltb, lt-leb, le-leb, eq-eqb, ne_eqb}
-use Rattle.definition.specs.Text.{eqb, ltb, if◌then◌else◌}
+use Rattle.definition.specs.Text.{eqb, ltb}
 use Rattle.records.specs.Numbers.{pair, number}
 use Rattle.records.specs.Stand.{far, width, value, stands, passed}
 

@@ -1,7 +1,7 @@
 -- The numbers that answer a call, and the place behind them.
-use Rattle.definition.specs.Text.{ℕ, List, [], ◌∷◌, ◌++◌, eqb, ltb, length, if◌then◌else◌}
+use Rattle.definition.specs.Text.{ℕ, List, [], eqb, ltb, length}
 use Rattle.definition.specs.Calls.{Reading, reading, Filled, reading_body, listing_tokens, building_lines, unescaping, Looked, looking_up, Pasted, pasting}
-use Rattle.std.specs.Prelude.{drop}
+use Rattle.std.specs.Prelude.{drop, ◌∷◌, ◌++◌, if◌then◌else◌}
 use Rattle.records.specs.Numbers.{number, numbers}
 use Rattle.records.specs.Rubbish.{most, room}
 use Rattle.records.specs.Stand.{far, passed}

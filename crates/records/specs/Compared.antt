@@ -1,6 +1,6 @@
 -- How the records of a file compare: the first that does not agree.
-use Rattle.definition.specs.Text.{ℕ, zero, suc, ◌+◌, ◌-◌, Bool, true, false, ◌&&◌, List, length, leb, ltb, take, if◌then◌else◌}
-use Rattle.std.specs.Prelude.{drop}
+use Rattle.definition.specs.Text.{ℕ, zero, suc, Bool, true, false, List, length, leb, ltb, take}
+use Rattle.std.specs.Prelude.{drop, ◌+◌, ◌-◌, ◌&&◌, if◌then◌else◌}
 use Rattle.records.specs.Numbers.{pair, number}
 use Rattle.records.specs.Stand.{far}
 use Rattle.records.specs.Answers.{answer_behind}

@@ -1,5 +1,6 @@
 -- Little-endian numbers in a row of bytes.
-use Rattle.definition.specs.Text.{ℕ, ◌+◌, ◌*◌, List, [], ◌∷◌, get_or}
+use Rattle.std.specs.Prelude.{◌+◌, ◌*◌, ◌∷◌}
+use Rattle.definition.specs.Text.{ℕ, List, [], get_or}
 
 -- Four bytes as a number; the lowest comes first.
 abbrev pub four : ℕ → ℕ → ℕ → ℕ → ℕ

@@ -1,5 +1,6 @@
 -- How long a table is lent.
-use Rattle.definition.specs.Text.{ℕ, ltb, if◌then◌else◌}
+use Rattle.std.specs.Prelude.{if◌then◌else◌}
+use Rattle.definition.specs.Text.{ℕ, ltb}
 
 -- The longest table.
 abbrev pub most : ℕ

@@ -1,5 +1,6 @@
 -- Whether numbers stand in a file, one behind another.
-use Rattle.definition.specs.Text.{ℕ, ◌+◌, List, [], ◌∷◌, eqb, leb, ltb, length, get_or, if◌then◌else◌}
+use Rattle.std.specs.Prelude.{◌+◌, ◌∷◌, if◌then◌else◌}
+use Rattle.definition.specs.Text.{ℕ, List, [], eqb, leb, ltb, length, get_or}
 use Rattle.records.specs.Numbers.{pair, number}
 
 -- The place behind a number that is not there; no file is longer.

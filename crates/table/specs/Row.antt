@@ -1,7 +1,6 @@
 -- Rows of numbers in a table: a row is written whole where it fits; where it does not, it is not written, and nothing after it.
-use Rattle.std.specs.Prelude.{ℕ, ◌+◌, ◌-◌, ◌≤◌, ◌<◌, ◌≡◌, Bool, List, leb, length}
+use Rattle.std.specs.Prelude.{ℕ, ◌+◌, ◌-◌, ◌≤◌, ◌<◌, ◌≡◌, Bool, List, leb, length, if◌then◌else◌}
 use Rattle.std.proofs.lemmas.List.Edits.{sets}
-use Rattle.definition.specs.Text.{if◌then◌else◌}
 
 -- The place of the next row once one did not fit: no table is that long.
 abbrev pub far : ℕ

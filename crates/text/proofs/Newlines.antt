@@ -1,4 +1,5 @@
 -- The newline at a place of a source, by its first two bytes; and where it ends.
+use Rattle.std.specs.Prelude.{if◌then◌else◌}
 use Prim.Native.Nat.{ℕ, suc, ◌+◌, ◌≤◌, ◌<◌}
 use native.Mathlib.Numerals.{add-one}
 use native.Mathlib.Nat.{add-zero, suc-ne-zero}
@@ -11,7 +12,6 @@ use lib.Dec.{eqb}
 use lib.ListN.{length, drop, get_or, length-drop, drop_of_length-le}
 use lib.Seq.{drop-cons, get_or-drop}
 use borrow.Author.Tests.{eqb-true, ne_eqb}
-use Rattle.definition.specs.Text.{if◌then◌else◌}
 use Rattle.definition.specs.Runs.{runs, grouped}
 use Rattle.definition.specs.Newline.{LF, CR, CRLF, char_more, chars, newline}
 use Rattle.theorems.proofs.Lexing.Chars.{char_row, chars_cons, row_on, row_off, row_within}

@@ -1,4 +1,5 @@
 -- The order of refusals, and the refusals that the calls on a source share.
+use Rattle.std.specs.Prelude.{if◌then◌else◌}
 use Prim.Native.Nat.{ℕ, ◌≤◌, ◌<◌}
 use mathlib.Core.Path.{◌≡◌, refl, sym, ap, ◌∙◌}
 use mathlib.Core.Bool.{Bool, true, false, not, and-eq-true_iff}
@@ -6,7 +7,6 @@ use mathlib.Core.List.{List, [], ◌∷◌, ◌++◌}
 use lib.Dec.{eqb}
 use lib.ListN.{length}
 use borrow.Author.Tests.{lt-ltb, le-ltb, eq-eqb, ne_eqb, ltb-false, eqb-false, not-true}
-use Rattle.definition.specs.Text.{if◌then◌else◌}
 use Rattle.definition.specs.Utf8.{left, utf8, ends_inside, nothing, cut, broken}
 use Rattle.definition.specs.Utf8 as definition
 use Rattle.definition.specs.Calls.{Check, Refusal, refusal, longest_source, too_long, not_utf8, cut_off, utf8_checks, source_checks}

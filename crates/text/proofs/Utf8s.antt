@@ -1,4 +1,5 @@
 -- What follows the first bytes of a range, and the UTF-8 check one byte further.
+use Rattle.std.specs.Prelude.{if◌then◌else◌}
 use Prim.Native.Nat.{ℕ, suc, ◌+◌, ◌≤◌, ◌<◌}
 use native.Mathlib.Numerals.{add-one}
 use native.Mathlib.Omega.{arith}
@@ -10,7 +11,6 @@ use lib.Dec.{leb, ltb}
 use lib.ListN.{length, drop, get_or, drop_of_length-le}
 use lib.Seq.{drop-cons}
 use borrow.Author.Tests.{le-leb, lt-leb, leb-true, ltb-true}
-use Rattle.definition.specs.Text.{if◌then◌else◌}
 use Rattle.definition.specs.Utf8.{Span, CharForm, within, char_forms, follow, left, Left, broken}
 use Rattle.text.specs.Utf8.{wanted_after}
 

@@ -1,6 +1,5 @@
 -- How many bytes a newline has, by the characters that follow and by two bytes.
-use Rattle.std.specs.Prelude.{ℕ, List, [], ◌∷◌, eqb, length}
-use Rattle.definition.specs.Text.{if◌then◌else◌}
+use Rattle.std.specs.Prelude.{ℕ, List, [], ◌∷◌, eqb, length, if◌then◌else◌}
 use Rattle.definition.specs.Runs.{Run, text}
 use Rattle.definition.specs.Newline.{LF, CR, newline}
 

@@ -1,7 +1,6 @@
 -- The automaton of the UTF-8 check: which bytes each of its states still wants, and what its answer says in the words of the definition.
-use Rattle.std.specs.Prelude.{ℕ, max, ◌≡◌, Bool, true, false, List, [], ◌∷◌, ltb}
+use Rattle.std.specs.Prelude.{ℕ, max, ◌≡◌, Bool, true, false, List, [], ◌∷◌, ltb, if◌then◌else◌}
 use Rattle.std.proofs.Math.Option.{Option, none, some}
-use Rattle.definition.specs.Text.{if◌then◌else◌}
 use Rattle.definition.specs.Utf8.{Span, ◌⋯◌, within, char_forms, follow, nothing, cut, broken}
 use Rattle.definition.specs.Utf8 as definition
 use Rattle.text.specs.Stretch.{Stretch, Look}

@@ -1,6 +1,6 @@
 // The UTF-8 check (RFC 3629, section 4): one pass, one state.
-ghost use Rattle.std.specs.Prelude.{◌≡◌, [], ◌+◌, ◌≤◌, length};
-ghost use Rattle.definition.specs.Text.{if◌then◌else◌, none, some};
+ghost use Rattle.std.specs.Prelude.{◌≡◌, [], ◌+◌, ◌≤◌, length, if◌then◌else◌};
+ghost use Rattle.definition.specs.Text.{none, some};
 ghost use Rattle.definition.specs.Utf8.{◌⋯◌, within, char_forms, follow, left};
 ghost use Rattle.text.specs.Stretch.{gathered, step_passes, Passing};
 ghost use Rattle.text.specs.Utf8.{wants, next_wants, wanted_after, told, starts, ascii_look, Passes};

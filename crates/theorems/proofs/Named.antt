@@ -1,9 +1,10 @@
 -- What holds of every directive of a list holds of the one that a word names.
+use Rattle.std.specs.Prelude.{if◌then◌else◌}
 use Prim.Native.Nat.{ℕ}
 use mathlib.Core.Bool.{Bool, true, false}
 use mathlib.Core.List.{List, [], ◌∷◌}
 use mathlib.Core.Option.{Option, none, some}
-use Rattle.definition.specs.Text.{same, if◌then◌else◌}
+use Rattle.definition.specs.Text.{same}
 use Rattle.definition.specs.Syntax.{Directive, directive_named}
 
 infixr 30 ◌&◌

@@ -1,4 +1,5 @@
 -- The refusals of the seven calls.
+use Rattle.std.specs.Prelude.{if◌then◌else◌}
 use Prim.Native.Nat.{ℕ, ◌+◌, ◌*◌, ◌<◌, ◌≤◌}
 use mathlib.Core.Path.{◌≡◌, refl, ap, ◌∙◌}
 use mathlib.Core.Bool.{Bool, true, false, not, ◌&&◌, false≢true, or-true, and-eq-true_iff}
@@ -8,7 +9,6 @@ use borrow.Author.Tests.{ltb-true, ltb-false, lt-ltb, le-ltb, eqb-true, eqb-fals
 use native.Mathlib.Omega.{arith}
 use lib.ListN.{length}
 use lib.Dec.{eqb, ltb}
-use Rattle.definition.specs.Text.{if◌then◌else◌}
 use Rattle.definition.specs.Runs.{text}
 use Rattle.definition.specs.Utf8.{Left, nothing, cut, broken, left, is_nothing, is_cut, utf8, ends_inside}
 use Rattle.definition.specs.LineMap.{line_starts, rises, line_table}

@@ -1,4 +1,5 @@
 -- What Req 01 changes in the answers of the five calls on a source.
+use Rattle.std.specs.Prelude.{if◌then◌else◌}
 use Prim.Native.Nat.{ℕ}
 use mathlib.Core.Path.{◌≡◌, refl, ap}
 use mathlib.Core.Bool.{Bool, true, false, not, ◌||◌}
@@ -7,7 +8,6 @@ use mathlib.Core.List.{List, [], ◌∷◌, ◌++◌}
 use borrow.Author.Tests.{eqb-false}
 use lib.ListN.{length, replicate}
 use lib.Dec.{eqb, ltb}
-use Rattle.definition.specs.Text.{if◌then◌else◌}
 use Rattle.definition.specs.Utf8.{Left, nothing, cut, broken, left, is_nothing, is_cut, utf8, ends_inside}
 use Rattle.definition.specs.LineMap.{line_starts}
 use Rattle.definition.specs.Unescaped.{unescaped}

@@ -1,5 +1,6 @@
 -- A body's row read leaf by leaf, as code reads it: no row is cut off or trimmed first.
-use Rattle.definition.specs.Text.{ℕ, zero, suc, Bool, true, ◌||◌, List, [], ◌∷◌, ◌≡◌, eqb, if◌then◌else◌, Kind}
+use Rattle.std.specs.Prelude.{◌||◌, ◌∷◌, ◌≡◌, if◌then◌else◌}
+use Rattle.definition.specs.Text.{ℕ, zero, suc, Bool, true, List, [], eqb, Kind}
 use Rattle.definition.specs.Tree.{Leaf, nil, node, leaves}
 use Rattle.definition.specs.Parser.{is, trivia, newline_leaf, Got, push, Reader, ◌then◌, wrap, skip_trivia, nothing, bump}
 

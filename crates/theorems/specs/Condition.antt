@@ -1,7 +1,7 @@
 -- What holds of the value of an #if (Req 03).
-use Rattle.std.specs.Prelude.{◌/◌, ◌^◌, ◌<◌, not, ◌↔◌, ℤ, pos, negsuc, nat_abs, ◌+ℤ◌, ◌*ℤ◌, ◌≤ℤ◌, ◌<ℤ◌}
+use Rattle.std.specs.Prelude.{◌/◌, ◌^◌, ◌<◌, not, ◌↔◌, ℤ, pos, negsuc, nat_abs, ◌+ℤ◌, ◌*ℤ◌, ◌≤ℤ◌, ◌<ℤ◌, ◌≡◌, ◌∷◌}
 use Rattle.std.specs.Int.Signed.{mag, non_neg, quot_z, rem_z, shr_z}
-use Rattle.definition.specs.Text.{ℕ, ◌≡◌, true, List, [], ◌∷◌, none, some, one_of}
+use Rattle.definition.specs.Text.{ℕ, true, List, [], none, some, one_of}
 use Rattle.definition.specs.Tree.{Leaf}
 use Rattle.definition.specs.Calls.{refusal, source_checks}
 use Rattle.definition.specs.Condition.Value.{Outcome, value, refused, divided}

@@ -1,7 +1,6 @@
 -- Demand 3, said of the counted numbers that a reading leaves in its tables (01, "The words of demand 3").
-use Rattle.std.specs.Prelude.{ℕ, zero, suc, ◌≡◌, ◌↔◌, List, [], ◌∷◌, ◌++◌, map, eqb, length, get_or, drop}
+use Rattle.std.specs.Prelude.{ℕ, zero, suc, ◌≡◌, ◌↔◌, List, [], ◌∷◌, ◌++◌, map, eqb, length, get_or, drop, if◌then◌else◌}
 use Rattle.std.proofs.Math.Seq.{slice}
-use Rattle.definition.specs.Text.{if◌then◌else◌}
 use Rattle.definition.specs.Tree.{Leaf, bytes, Entry, Width, Form}
 use Rattle.definition.specs.Grammar.{Cut, Division, Keeps}
 use Rattle.definition.specs.Calls.{Reading}

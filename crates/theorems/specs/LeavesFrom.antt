@@ -1,7 +1,6 @@
 -- What is left to read from a place of a source, and the leaf that stands at a place.
-use Rattle.std.specs.Prelude.{ℕ, Bool, List, eqb, drop}
+use Rattle.std.specs.Prelude.{ℕ, Bool, List, eqb, drop, if◌then◌else◌}
 use Rattle.std.proofs.Math.Seq.{slice}
-use Rattle.definition.specs.Text.{if◌then◌else◌}
 use Rattle.definition.specs.SyntaxKind.{Kind}
 use Rattle.definition.specs.Glue.{tokens}
 use Rattle.definition.specs.Tree.{Leaf, placed}

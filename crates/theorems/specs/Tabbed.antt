@@ -1,6 +1,6 @@
 -- Req 02: a source, and what is read of it, with a tab in place of each vertical tab.
-use Rattle.std.specs.Prelude.{ℕ, List, map, eqb}
-use Rattle.definition.specs.Text.{if◌then◌else◌, byte}
+use Rattle.std.specs.Prelude.{ℕ, List, map, eqb, if◌then◌else◌}
+use Rattle.definition.specs.Text.{byte}
 use Rattle.definition.specs.Newline.{VT}
 use Rattle.definition.specs.Glue.{Token}
 use Rattle.definition.specs.Tree.{Leaf, Forest, nil, leaf, node}

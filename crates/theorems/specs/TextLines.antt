@@ -1,5 +1,6 @@
 -- Text lines: how the reader of items goes on over them.
-use Rattle.definition.specs.Text.{ℕ, ◌+◌, false, List, ◌++◌, ◌≡◌, Kind}
+use Rattle.std.specs.Prelude.{◌+◌, ◌++◌, ◌≡◌}
+use Rattle.definition.specs.Text.{ℕ, false, List, Kind}
 use Rattle.definition.specs.Tree.{Leaf, row, ◌▹◌}
 use Rattle.definition.specs.Parser.{is, trivia, inline, after, peek, Got, Reader, ◌then◌, skip, bump}
 use Rattle.definition.specs.Syntax.{file}

@@ -1,7 +1,7 @@
 -- The first two stages of the lexer as one automaton over bytes: the state of a pre-token, and the character that its last byte belongs to.
-use Rattle.std.specs.Prelude.{ℕ, suc, Bool, ◌&&◌, List, [], ◌∷◌, map, eqb, take}
+use Rattle.std.specs.Prelude.{ℕ, suc, Bool, ◌&&◌, List, [], ◌∷◌, map, eqb, take, if◌then◌else◌}
 use Rattle.std.proofs.Math.Option.{none, some}
-use Rattle.definition.specs.Text.{if◌then◌else◌, same}
+use Rattle.definition.specs.Text.{same}
 use Rattle.definition.specs.SyntaxKind.{Kind}
 use Rattle.definition.specs.Newline.{char_more, chars}
 use Rattle.definition.specs.Unescaped.{unescaped}

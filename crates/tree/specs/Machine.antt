@@ -1,6 +1,5 @@
 -- The tree writer as a total machine over events: rowan's builder as `parser.rs` uses it, with entries in a lent table.
-use Rattle.std.specs.Prelude.{ℕ, ◌+◌, ◌-◌, List, [], ◌∷◌, ◌++◌, ltb, get_or, set}
-use Rattle.definition.specs.Text.{if◌then◌else◌}
+use Rattle.std.specs.Prelude.{ℕ, ◌+◌, ◌-◌, List, [], ◌∷◌, ◌++◌, ltb, get_or, set, if◌then◌else◌}
 use Rattle.definition.specs.Tree.{Forest, nil, leaf, node, stop, Entry, Width, entry_numbers, leaf_entry, node_entry}
 use Rattle.definition.specs.Tree as tree
 use Rattle.theorems.specs.Height.{open_levels}

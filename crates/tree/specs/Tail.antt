@@ -1,6 +1,5 @@
 -- The unused tail of a table, handed on: where it begins, and where its places are on the whole table.
-use Rattle.std.specs.Prelude.{ℕ, ◌+◌, ◌-◌, ◌≤◌, min, ◌≡◌, List, ltb, length, drop}
-use Rattle.definition.specs.Text.{if◌then◌else◌}
+use Rattle.std.specs.Prelude.{ℕ, ◌+◌, ◌-◌, ◌≤◌, min, ◌≡◌, List, ltb, length, drop, if◌then◌else◌}
 use Rattle.tree.specs.declared.Pen.{Pen}
 use Rattle.tree.specs.Machine.{far, pen_at}
 

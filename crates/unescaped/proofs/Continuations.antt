@@ -1,4 +1,5 @@
 -- What stands at a place of a text: a byte that is kept, or a continuation, which is dropped.
+use Rattle.std.specs.Prelude.{if◌then◌else◌}
 use Prim.Native.Nat.{ℕ, zero, suc, ◌+◌, ◌-◌, ◌≤◌, ◌<◌}
 use native.Mathlib.Numerals.{add-one}
 use native.Mathlib.Omega.{arith}
@@ -8,7 +9,7 @@ use mathlib.Core.List.{List, [], ◌∷◌}
 use lib.ListN.{length, drop, get_or, length-drop, drop_of_length-le}
 use lib.Seq.{drop-cons, drop-drop}
 use borrow.Author.Tests.{eqb-true, ne_eqb}
-use Rattle.definition.specs.Text.{if◌then◌else◌, byte}
+use Rattle.definition.specs.Text.{byte}
 use Rattle.definition.specs.Runs.{grouped}
 use Rattle.definition.specs.Newline.{chars, newline}
 use Rattle.definition.specs.Unescaped.{unescaped, unescaped_chars}

@@ -1,6 +1,6 @@
 -- How many bytes a continuation has.
-use Rattle.std.specs.Prelude.{ℕ, zero, suc, List, [], ◌∷◌, eqb}
-use Rattle.definition.specs.Text.{if◌then◌else◌, byte}
+use Rattle.std.specs.Prelude.{ℕ, zero, suc, List, [], ◌∷◌, eqb, if◌then◌else◌}
+use Rattle.definition.specs.Text.{byte}
 use Rattle.definition.specs.Newline.{chars}
 use Rattle.text.specs.Newline.{newline_len}
 

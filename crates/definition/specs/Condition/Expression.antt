@@ -1,6 +1,6 @@
 -- The expressions of Req 03 (GLSL 4.60, section 3.3), as a grammar over leaves. `G e L R` says that L begins with the expression e and that R follows it.
-use Rattle.std.specs.Prelude.{max, ◌≤◌}
-use Rattle.definition.specs.Text.{ℕ, suc, ◌≡◌, true, List, [], ◌∷◌, some, if◌then◌else◌, Kind}
+use Rattle.std.specs.Prelude.{max, ◌≤◌, ◌≡◌, ◌∷◌, if◌then◌else◌}
+use Rattle.definition.specs.Text.{ℕ, suc, true, List, [], some, Kind}
 use Rattle.definition.specs.Unescaped.{unescaped}
 use Rattle.definition.specs.Tree.{Leaf}
 use Rattle.definition.specs.Parser.{is, trivia}

@@ -1,5 +1,6 @@
 -- Literals (Req 03; GLSL 4.1.3): decimal, octal or hexadecimal, without suffix.
-use Rattle.definition.specs.Text.{ℕ, ◌+◌, ◌-◌, ◌*◌, ◌||◌, List, [], ◌∷◌, Option, none, some, eqb, ltb, if◌then◌else◌, among, byte}
+use Rattle.std.specs.Prelude.{◌+◌, ◌-◌, ◌*◌, ◌||◌, ◌∷◌, if◌then◌else◌}
+use Rattle.definition.specs.Text.{ℕ, List, [], Option, none, some, eqb, ltb, among, byte}
 
 -- What a digit counts; other bytes count more than any digit.
 unfoldable pub digit_value : ℕ → ℕ

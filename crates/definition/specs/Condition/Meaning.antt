@@ -1,6 +1,6 @@
 -- What an expression comes to under a list of names (Req 03).
-use Rattle.std.specs.Prelude.{drop, ℤ, pos}
-use Rattle.definition.specs.Text.{ℕ, ◌-◌, Bool, true, false, ◌&&◌, List, [], ◌∷◌, Option, none, some, eqb, leb, ltb, length, take, same, if◌then◌else◌}
+use Rattle.std.specs.Prelude.{drop, ℤ, pos, ◌-◌, ◌&&◌, ◌∷◌, if◌then◌else◌}
+use Rattle.definition.specs.Text.{ℕ, Bool, true, false, List, [], Option, none, some, eqb, leb, ltb, length, take, same}
 use Rattle.definition.specs.Unescaped.{unescaped}
 use Rattle.definition.specs.Condition.Value.{Outcome, value, refused, no_value, within, truth, signed}
 use Rattle.definition.specs.Condition.Operators.{Binary}

@@ -1,8 +1,8 @@
 -- The operators of GLSL 4.60, section 3.3, in its order, each with its precedence there: one table of the binary ones and one of the signs.
-use Rattle.std.specs.Prelude.{ℤ, pos, neg_ℤ, ◌+ℤ◌, ◌-ℤ◌, ◌*ℤ◌}
+use Rattle.std.specs.Prelude.{ℤ, pos, neg_ℤ, ◌+ℤ◌, ◌-ℤ◌, ◌*ℤ◌, ◌-◌, ◌∷◌, if◌then◌else◌}
 use Rattle.std.specs.Int.Signed.{lt_z, le_z, quot_z, rem_z, shr_z}
 use Rattle.std.specs.Int.Bits.{bit_and, bit_or, bit_xor}
-use Rattle.definition.specs.Text.{ℕ, ◌-◌, not, List, [], ◌∷◌, Option, none, some, eqb, if◌then◌else◌, Kind}
+use Rattle.definition.specs.Text.{ℕ, not, List, [], Option, none, some, eqb, Kind}
 use Rattle.definition.specs.Condition.Value.{Outcome, value, within, truth, is_zero, equal, bitwise, flipped, divided, shifted}
 
 -- A binary operator. `rank` rises from the loosest; `decided` is the result where the left side alone gives it, and the right side does not count.

@@ -1,6 +1,7 @@
 -- The expression that a row of leaves is, found: operand, bracket and expression readers call each other. n: no fewer than the leaves that remain;
 -- d: the levels that may still be opened. That it finds the grammar's expression, exactly if there is one, is proved.
-use Rattle.definition.specs.Text.{ℕ, zero, suc, List, [], ◌∷◌, Option, none, some, leb, length, if◌then◌else◌, Kind}
+use Rattle.std.specs.Prelude.{◌∷◌, if◌then◌else◌}
+use Rattle.definition.specs.Text.{ℕ, zero, suc, List, [], Option, none, some, leb, length, Kind}
 use Rattle.definition.specs.Tree.{Leaf}
 use Rattle.definition.specs.Parser.{is}
 use Rattle.definition.specs.Condition.Literal.{literal}

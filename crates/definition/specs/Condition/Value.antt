@@ -1,7 +1,7 @@
 -- Values are signed, 32 bits (Req 03). A value is a whole number, ℤ of the toolchain, as a signed integer of the code is in a contract.
-use Rattle.std.specs.Prelude.{◌^◌, ℤ, pos, negsuc}
+use Rattle.std.specs.Prelude.{◌^◌, ℤ, pos, negsuc, ◌-◌, if◌then◌else◌}
 use Rattle.std.specs.Int.Signed.{mag}
-use Rattle.definition.specs.Text.{ℕ, suc, ◌-◌, Bool, false, eqb, ltb, if◌then◌else◌}
+use Rattle.definition.specs.Text.{ℕ, suc, Bool, false, eqb, ltb}
 
 -- The refusals of a value (Req 03), by their conditions; they follow those of the other calls.
 abbrev pub ValueRefusal : record { EXPRESSION : ℕ; NAME : ℕ; RANGE : ℕ }

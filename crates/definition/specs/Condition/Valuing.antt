@@ -1,6 +1,6 @@
 -- The call that works out the value of an #if (Req 03): its outcome, on whatever it is handed.
-use Rattle.std.specs.Prelude.{ℤ, pos}
-use Rattle.definition.specs.Text.{ℕ, ◌≡◌, true, false, List, Option, none, some, eqb}
+use Rattle.std.specs.Prelude.{ℤ, pos, ◌≡◌}
+use Rattle.definition.specs.Text.{ℕ, true, false, List, Option, none, some, eqb}
 use Rattle.definition.specs.Glue.{tokens}
 use Rattle.definition.specs.Tree.{Leaf, placed}
 use Rattle.definition.specs.Calls.{refusal, source_checks}

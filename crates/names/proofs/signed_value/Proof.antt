@@ -1,4 +1,5 @@
 -- `signed_value` reads 32 bits as a value.
+use Rattle.std.specs.Prelude.{if◌then◌else◌}
 use Prim.Native.Nat.{ℕ, suc, ◌-◌, ◌^◌}
 use native.Mathlib.Omega.{arith}
 use mathlib.Core.Path.{◌≡◌, refl, ap, ◌∙◌}
@@ -7,7 +8,6 @@ use lib.Dec.{ltb}
 use lib.IntN.{ℤ, pos, negsuc}
 use mir.Syntax.{w32}
 use mir.Val.{sel, to_z}
-use Rattle.definition.specs.Text.{if◌then◌else◌}
 use Rattle.definition.specs.Condition.Value.{signed}
 use Rattle.text.proofs.Cases.{cases}
 use Rattle.names.proofs.signed_value.Statement.{statement}

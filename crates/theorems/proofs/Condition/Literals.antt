@@ -1,4 +1,5 @@
 -- A literal may be read with a number that stops growing at 2 ^ 31: what it comes to is the same, whatever its length.
+use Rattle.std.specs.Prelude.{if◌then◌else◌}
 use Prim.Native.Nat.{ℕ, suc, ◌+◌, ◌*◌, ◌^◌, ◌≤◌, min}
 use mathlib.Core.Path.{◌≡◌, refl}
 use mathlib.Core.Bool.{Bool, true, false}
@@ -9,7 +10,6 @@ use native.Mathlib.Omega.{arith}
 use lib.Dec.{leb, ltb}
 use lib.IntN.{pos}
 use borrow.Author.Tests.{leb-true, leb-false, ltb-true, ltb-false}
-use Rattle.definition.specs.Text.{if◌then◌else◌}
 use Rattle.definition.specs.Condition.Value.{within}
 use Rattle.definition.specs.Condition.Literal.{digit_value, digits}
 use Rattle.theorems.proofs.Condition.Working.{mapped}

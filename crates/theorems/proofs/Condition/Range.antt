@@ -1,4 +1,5 @@
 -- Values are signed, 32 bits, and an expression of the grammar is refused with 12 or 13 only; so 11 says that there is none.
+use Rattle.std.specs.Prelude.{if◌then◌else◌}
 use Prim.Native.Nat.{ℕ, ◌^◌, ◌<◌}
 use mathlib.Core.Path.{◌≡◌, refl, sym, ◌∙◌}
 use mathlib.Core.Bool.{Bool, true, false, not, or-true, false≢true}
@@ -11,7 +12,7 @@ use lib.IntN.{ℤ, pos, negsuc, neg_ℤ}
 use lib.Signed.{mag, lt_z, le_z, quot_z, rem_z}
 use lib.Bits.{and_lt, or_lt, xor_lt}
 use borrow.Author.Tests.{ltb-true, ltb-false}
-use Rattle.definition.specs.Text.{if◌then◌else◌, one_of}
+use Rattle.definition.specs.Text.{one_of}
 use Rattle.definition.specs.Tree.{Leaf}
 use Rattle.definition.specs.Calls.{refusal, source_checks, too_long, not_utf8, cut_off}
 use Rattle.definition.specs.Condition.Value.{Outcome, value, refused, is_zero, equal, within, truth, bits, signed, bitwise, flipped, divided, shifted}

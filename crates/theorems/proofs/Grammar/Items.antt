@@ -1,4 +1,5 @@
 -- Leaves are read with no error exactly when they keep the grammar, and they are divided in at most one way.
+use Rattle.std.specs.Prelude.{if◌then◌else◌}
 use Prim.Native.Nat.{ℕ, zero, suc, ◌≤◌}
 use mathlib.Core.Path.{◌≡◌, refl, ap, sym, ◌∙◌, subst}
 use mathlib.Core.Bool.{Bool, true, false, not}
@@ -8,7 +9,6 @@ use mathlib.Core.Logic.{◌↔◌, ◌⊎◌, inl, inr}
 use borrow.Author.Tests.{not-false}
 use native.Mathlib.Omega.{arith}
 use lib.ListN.{length}
-use Rattle.definition.specs.Text.{if◌then◌else◌}
 use Rattle.definition.specs.SyntaxKind.{Kind}
 use Rattle.definition.specs.Tree.{Leaf}
 use Rattle.definition.specs.Parser.{is, trivia, newline_leaf, inline, after, peek, Reader, ◌then◌, skip, skip_trivia, nothing, bump}

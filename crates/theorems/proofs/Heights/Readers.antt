@@ -1,10 +1,10 @@
 -- How deep the trees of the combinators, of the directives' rests and of groups nest.
+use Rattle.std.specs.Prelude.{if◌then◌else◌}
 use Prim.Native.Nat.{ℕ, suc}
 use mathlib.Core.Path.{◌≡◌, refl}
 use mathlib.Core.Bool.{Bool, true, false, not}
 use mathlib.Core.List.{List, [], ◌∷◌}
 use mathlib.Core.Option.{Option, none, some}
-use Rattle.definition.specs.Text.{if◌then◌else◌}
 use Rattle.definition.specs.SyntaxKind.{Kind}
 use Rattle.definition.specs.Tree.{Leaf, nil, leaf, body_kind}
 use Rattle.definition.specs.Error.{Err}

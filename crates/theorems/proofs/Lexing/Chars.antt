@@ -1,4 +1,5 @@
 -- The characters of a source: which bytes go on with one, of which kind it ends, and that those after it are the characters of what it leaves.
+use Rattle.std.specs.Prelude.{if◌then◌else◌}
 use Prim.Native.Nat.{ℕ, ◌≤◌}
 use native.Mathlib.Omega.{arith}
 use mathlib.Core.Path.{◌≡◌, refl, ap, sym, ◌∙◌}
@@ -8,7 +9,7 @@ use mathlib.Core.Option.{Option, none, some}
 use lib.Dec.{eqb, leb}
 use lib.ListN.{length, drop, length-append}
 use borrow.Author.Tests.{eqb-true, leb-true}
-use Rattle.definition.specs.Text.{if◌then◌else◌, among}
+use Rattle.definition.specs.Text.{among}
 use Rattle.definition.specs.Runs.{Run, Row, put, runs, grouped}
 use Rattle.definition.specs.Newline.{LF, CR, CRLF, char_more, chars}
 use Rattle.theorems.proofs.Lexing.Runs.{joined_runs, restart}

@@ -1,4 +1,5 @@
 -- Lines that begin no directive, by their first bytes.
+use Rattle.std.specs.Prelude.{if◌then◌else◌}
 use Prim.Native.Nat.{ℕ, suc, ◌+◌, ◌≤◌, ◌<◌}
 use mathlib.Core.Path.{◌≡◌, refl, ap, sym, ◌∙◌}
 use mathlib.Core.Bool.{Bool, true, false, not, ◌&&◌, ◌||◌, and-eq-true_iff}
@@ -10,7 +11,7 @@ use lib.Dec.{eqb}
 use lib.ListN.{length, drop, get_or, drop_of_length-le}
 use lib.Seq.{drop-cons, drop-drop}
 use borrow.Author.Tests.{eqb-true, eqb-false, ne_eqb, not-true}
-use Rattle.definition.specs.Text.{if◌then◌else◌, ascii, byte}
+use Rattle.definition.specs.Text.{ascii, byte}
 use Rattle.definition.specs.SyntaxKind.{Kind}
 use Rattle.definition.specs.Newline.{newline, blank, char_more}
 use Rattle.definition.specs.Pre.{State, done, slash, ident, single_comment, quote_string, angle_string, digits, find, puncts, begin, flag, more, kind_of}

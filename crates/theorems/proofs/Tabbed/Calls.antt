@@ -1,4 +1,5 @@
 -- Every call on a source answers as on the source with tabs (Req 02): refusal, counts and tables.
+use Rattle.std.specs.Prelude.{if◌then◌else◌}
 use Prim.Native.Nat.{ℕ, zero, suc, ◌+◌, ◌-◌, ◌≤◌}
 use native.Mathlib.Omega.{arith}
 use mathlib.Core.Path.{◌≡◌, refl, ap, ap₂, sym, ◌∙◌}
@@ -8,7 +9,6 @@ use mathlib.Core.Option.{Option, none, some, none-ne-some, some-injective}
 use lib.Dec.{eqb, leb, ltb}
 use lib.ListN.{length, length-map, replicate}
 use borrow.Author.Tests.{leb-true, lt-leb}
-use Rattle.definition.specs.Text.{if◌then◌else◌}
 use Rattle.definition.specs.SyntaxKind.{Kind}
 use Rattle.definition.specs.Utf8.{Span, CharForm, within, char_forms, follow, left, is_nothing, is_cut, utf8, ends_inside}
 use Rattle.definition.specs.Newline.{VT}

@@ -1,4 +1,5 @@
 -- The lexer does not tell a vertical tab from a tab (Req 02): a source's tokens, lines and unescaped text are those of the source with tabs.
+use Rattle.std.specs.Prelude.{if◌then◌else◌}
 use Prim.Native.Nat.{ℕ, suc, ◌+◌}
 use mathlib.Core.Path.{◌≡◌, refl, ap, ap₂, sym, ◌∙◌}
 use mathlib.Core.Bool.{Bool, true, false, ◌&&◌, ◌||◌, not, false≢true, and-false, and-eq-true_iff}
@@ -7,7 +8,7 @@ use mathlib.Core.Option.{Option, none, some}
 use lib.Dec.{eqb}
 use lib.ListN.{length, length-map}
 use borrow.Author.Tests.{ne_eqb, eqb-true, eqb-false}
-use Rattle.definition.specs.Text.{if◌then◌else◌, among, one_of, ascii, same}
+use Rattle.definition.specs.Text.{among, one_of, ascii, same}
 use Rattle.definition.specs.SyntaxKind.{Kind}
 use Rattle.definition.specs.Runs.{Run, text, joined, grouped}
 use Rattle.definition.specs.Newline.{LF, CR, VT, char_more, chars, newline}

@@ -1,8 +1,8 @@
 -- The leaves of a row of trees, and how `while`, `after` and the trivia at its end cut a row.
+use Rattle.std.specs.Prelude.{if◌then◌else◌}
 use mathlib.Core.Path.{◌≡◌, refl, ap, sym, ◌∙◌}
 use mathlib.Core.Bool.{Bool, true, false, not, ◌&&◌}
 use mathlib.Core.List.{List, [], ◌∷◌, ◌++◌, append_assoc, append-nil}
-use Rattle.definition.specs.Text.{if◌then◌else◌}
 use Rattle.definition.specs.SyntaxKind.{Kind}
 use Rattle.definition.specs.Tree.{Leaf, bytes, Forest, nil, leaf, node, ◌▹◌, leaves, row}
 use Rattle.definition.specs.Parser.{is, trivia, while, after, peek}

@@ -1,11 +1,11 @@
 -- How many nodes rows of trees have, and what the combinators add to nodes and errors.
+use Rattle.std.specs.Prelude.{if◌then◌else◌}
 use Prim.Native.Nat.{ℕ, suc, ◌+◌, ◌-◌, ◌≤◌}
 use mathlib.Core.Path.{◌≡◌, refl}
 use mathlib.Core.Bool.{Bool, true, false, not, ◌&&◌}
 use mathlib.Core.List.{List, [], ◌∷◌}
 use native.Mathlib.Omega.{arith}
 use lib.ListN.{length, length-append}
-use Rattle.definition.specs.Text.{if◌then◌else◌}
 use Rattle.definition.specs.SyntaxKind.{Kind}
 use Rattle.definition.specs.Tree.{Leaf, long, Forest, nil, leaf, node, ◌▹◌, leaves, row, size, entries}
 use Rattle.definition.specs.Error.{Err}

@@ -1,4 +1,5 @@
 -- `rest_of_character` reads up to the next byte that does not go on with a character of several bytes.
+use Rattle.std.specs.Prelude.{if◌then◌else◌}
 use Prim.Native.Nat.{ℕ, ◌+◌, ◌-◌, ◌≤◌, ◌<◌}
 use mathlib.Core.Path.{◌≡◌, refl, sym, ◌∙◌}
 use mathlib.Core.Bool.{false}
@@ -7,7 +8,7 @@ use mathlib.Core.Option.{none, some}
 use native.Mathlib.Omega.{arith}
 use lib.ListN.{length, get_or}
 use borrow.Author.Tests.{ne_eqb, lt-leb, le-leb}
-use Rattle.definition.specs.Text.{if◌then◌else◌, among}
+use Rattle.definition.specs.Text.{among}
 use Rattle.definition.specs.Newline.{LF, CR, char_more}
 use Rattle.definition.specs.Pre.{done, more, kind_of}
 use Rattle.text.proofs.Cases.{cases}
