@@ -14,9 +14,9 @@ import sys
 
 NAME = r'[^\s(){}\[\].;,@"«»|]+'
 MODIFIERS = r"(?:unfoldable |abbrev |pub |ruleset |data |record |mutual )*"
-HEAD = re.compile(rf"\s*{MODIFIERS}({NAME})\s*(?:\{{ℓ.*\}}\s*)?(?:\(.*\)\s*)?:\s")
-BINDERS = re.compile(rf"[({{;]\s*((?:{NAME}\s)+)\s*:\s")
-SEVERAL = re.compile(rf"\s*(?:pub )?((?:{NAME}\s+)+):\s")
+HEAD = re.compile(rf"\s*{MODIFIERS}({NAME})\s*(?:\{{ℓ.*\}}\s*)?(?:\(.*\)\s*)?:(?:\s|$)")
+BINDERS = re.compile(rf"[({{;]\s*((?:{NAME}\s)+)\s*:(?:\s|$)")
+SEVERAL = re.compile(rf"\s*(?:pub )?((?:{NAME}\s+)+):(?:\s|$)")
 ALIAS = re.compile(rf" as ({NAME})")
 USE = re.compile(r"\s*(?:pub )?use (\S+?)\.?(\{.*\})?( as .*)?$")
 OWN = re.compile(r"Rattle\.(?!(?:std|core|io|libc|os|std_\w+)\b)")

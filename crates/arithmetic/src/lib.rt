@@ -1,4 +1,6 @@
 // Values of 32 bits, and what the operators of an expression do with them (Req 03).
+#![tactic(auto)]
+
 pub mod answers;
 pub mod binary;
 pub mod integer;

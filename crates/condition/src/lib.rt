@@ -1,4 +1,6 @@
 // The value of a conditional expression under a list of names (Req 03).
+#![tactic(auto)]
+
 pub mod expression;
 pub mod leaf;
 pub mod operand;

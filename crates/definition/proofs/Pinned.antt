@@ -15,7 +15,7 @@ from n zero = []
 from n (suc k) = n ∷ from (suc n) k
 
 -- The kinds are 1 to 86, in the order of 01.
-kinds-in-order :
+kinds_in_order :
     K.IDENT_KW ∷ K.DEFINED ∷ K.DIGITS ∷ K.PERIOD ∷ K.PLUS ∷ K.DASH ∷ K.SLASH ∷ K.ASTERISK ∷ K.PERCENT ∷ K.LANGLE ∷ K.RANGLE ∷
     K.LBRACKET ∷ K.RBRACKET ∷ K.LPAREN ∷ K.RPAREN ∷ K.LBRACE ∷ K.RBRACE ∷ K.CARET ∷ K.BAR ∷ K.AMPERSAND ∷ K.TILDE ∷ K.EQUAL ∷ K.BANG ∷
     K.COLON ∷ K.SEMICOLON ∷ K.COMMA ∷ K.QUESTION ∷ K.HASH ∷ K.QUOTE_STRING ∷ K.ANGLE_STRING ∷ K.BACKSLASH ∷ K.WS ∷ K.NEWLINE ∷
@@ -26,7 +26,7 @@ kinds-in-order :
     K.PP_IFNDEF ∷ K.PP_ELSE ∷ K.PP_ELIF ∷ K.PP_ENDIF ∷ K.PP_ERROR ∷ K.PP_ERROR_BODY ∷ K.PP_PRAGMA ∷ K.PP_PRAGMA_BODY ∷ K.PP_EXTENSION ∷
     K.PP_VERSION ∷ K.PP_VERSION_NUMBER ∷ K.PP_VERSION_PROFILE ∷ K.PP_LINE ∷ K.PP_LINE_BODY ∷ K.ROOT ∷ [] ≡ from 1 86
 unfolding from
-kinds-in-order = refl
+kinds_in_order = refl
 
 -- The classes of first bytes: 10 and 13 are newlines, 9, 11 (Req 02), 12 and 32 blanks.
 classes : map class (from 0 256) ≡

@@ -1,4 +1,6 @@
 // The directives, each from behind its word (`syntax.rs`).
+#![tactic(auto)]
+
 pub mod body;
 pub mod define;
 pub mod rest;

@@ -1,4 +1,6 @@
 // The items of a source: text lines, groups and directives (`file` of `syntax.rs`).
+#![tactic(auto)]
+
 ghost use Rattle.std.specs.Prelude.{◌≡◌, length};
 ghost use Rattle.parser.specs.Rest.{Reading};
 ghost use Rattle.parser_run.specs.Reads.{stand, Reads};

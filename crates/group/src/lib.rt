@@ -1,4 +1,6 @@
 // Groups: brackets behind a HASH (`pp_rs_ident` of `syntax.rs`).
+#![tactic(auto)]
+
 ghost use Rattle.std.specs.Prelude.{◌≡◌, ◌≤◌, length};
 ghost use Rattle.definition.specs.SyntaxKind.{Kind as SyntaxKind};
 ghost use Rattle.definition.specs.Parser as reader;

@@ -1,4 +1,6 @@
 // The end of a directive's line (`finish` of `syntax.rs`).
+#![tactic(auto)]
+
 ghost use Rattle.std.specs.Prelude.{◌≡◌, false};
 ghost use Rattle.definition.specs.Syntax.{finish};
 ghost use Rattle.theorems.specs.BodyRows.{ends};

@@ -1,5 +1,7 @@
 // A source read and shown, in the format of document 01's program `listing`; and read again with tables of all lengths that matter.
 // What is printed no contract can say: the functions that only print promise nothing, and answer with the error where printing failed.
+#![tactic(auto)]
+
 pub mod lengths;
 mod lent;
 pub mod print;

@@ -1,4 +1,6 @@
 // Literals: decimal, octal or hexadecimal, without suffix, read unescaped (Req 03).
+#![tactic(auto)]
+
 ghost use Rattle.std.specs.Prelude.{◌≡◌, ◌<◌, ◌≤◌, drop};
 ghost use Rattle.definition.specs.Unescaped.{unescaped};
 ghost use Rattle.definition.specs.Condition.Literal.{digit_value};

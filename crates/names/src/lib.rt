@@ -1,4 +1,6 @@
 // The lent list of names, four numbers each: start and end in a second text, a mark and a value as 32 bits (Req 03).
+#![tactic(auto)]
+
 ghost use Rattle.std.specs.Prelude.{◌≡◌};
 ghost use Rattle.definition.specs.Unescaped.{unescaped};
 ghost use Rattle.definition.specs.Condition.Meaning.{names, spells, first, valued, listed};

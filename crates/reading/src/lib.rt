@@ -1,4 +1,6 @@
 // Reading a source, and a define body (`Parser::parse`, `Parser::parse_define_body`).
+#![tactic(auto)]
+
 pub mod body;
 pub mod parse;
 

@@ -1,4 +1,6 @@
 // Recorded answers of the calls (compare/record.py tells the format): run again and compared.
+#![tactic(auto)]
+
 pub mod agree;
 pub mod input;
 mod number;

@@ -5,8 +5,7 @@
 ghost use Rattle.std.specs.Prelude.{◌≡◌, IfOk, replicate};
 ghost use Rattle.records.specs.Input.{IsPrefixLen};
 
-use records::Comparison;
-use records::agree;
+use records::{Comparison, agree};
 use std::fs::File;
 use std::io;
 

@@ -1,5 +1,7 @@
 // The calls as host programs in C and Rust see them. A slice passes as a pointer and a length; an answer comes back by value.
 // Each contract equates the answer, and every number of a lent table afterwards, with the call's outcome in the definition.
+#![tactic(auto)]
+
 ghost use Rattle.std.specs.Prelude.{length};
 ghost use Rattle.definition.specs.Calls.{listing_tokens, building_lines, unescaping, looking_up, pasting};
 ghost use Rattle.table.specs.Fills.{Fills};

@@ -1,4 +1,6 @@
 // The calls of `shader_reader` under their C names: the static library that hosts link. Each has the clauses of the call that it makes.
+#![tactic(auto)]
+
 ghost use Rattle.std.specs.Prelude.{length};
 ghost use Rattle.definition.specs.Calls.{listing_tokens, building_lines, unescaping, looking_up, pasting};
 ghost use Rattle.table.specs.Fills.{Fills};

@@ -1,2 +1,4 @@
 // Items that begin with a HASH (`syntax.rs`).
+#![tactic(auto)]
+
 pub mod section;

@@ -16,7 +16,7 @@ use Rattle.definition.specs.Grammar.{words, rest_after}
 use Rattle.word.specs.Word.{Word, row_at, spellings, spelling, Finds, directive_at}
 
 -- The words at the fourteen places, and none at that of an unknown one.
-pub spelt-words :
+pub spelt_words :
     map spelling (
     Word.INCLUDE ∷ Word.DEFINE ∷ Word.UNDEF ∷ Word.LINE ∷ Word.ERROR ∷ Word.PRAGMA ∷ Word.VERSION ∷
     Word.IF ∷ Word.IFDEF ∷ Word.IFNDEF ∷ Word.ELIF ∷ Word.ELSE ∷ Word.ENDIF ∷ Word.EXTENSION ∷ Word.UNKNOWN ∷ [])
@@ -24,7 +24,7 @@ pub spelt-words :
     some (ascii "pragma") ∷ some (ascii "version") ∷ some (ascii "if") ∷ some (ascii "ifdef") ∷ some (ascii "ifndef") ∷
     some (ascii "elif") ∷ some (ascii "else") ∷ some (ascii "endif") ∷ some (ascii "extension") ∷ none ∷ []
 unfolding spelling spellings row_at words
-spelt-words = refl
+spelt_words = refl
 
 -- The words of the reader's table are those of the grammar's, in one order.
 pub spelt_alike : (n : ℕ) (again : List Leaf → List Leaf) → map (λ d. d.spelt) (directives n again) ≡ spellings

@@ -139,6 +139,6 @@ module _ (n : ℕ) where
   pub exact_extension : Exact (pp_extension n) (rest_of Rest.extension)
   unfolding pp_extension
   exact_extension =
-      let after-colon = exact_lead _ exact_ident solid_ident in
-      let after-name = exact_lead _ (exact_colon n _ after-colon) (solid_then (solid_one _ refl)) in
-      exact_lead _ (exact_then _ _ exact_ident after-name) (solid_then solid_ident)
+      let after_colon = exact_lead _ exact_ident solid_ident in
+      let after_name = exact_lead _ (exact_colon n _ after_colon) (solid_then (solid_one _ refl)) in
+      exact_lead _ (exact_then _ _ exact_ident after_name) (solid_then solid_ident)
