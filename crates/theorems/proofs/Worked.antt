@@ -32,7 +32,7 @@ same_equal (x ∷ xs) (y ∷ ys) e =
 
 each_listed : (ws : List Worked) → all_listed ws ≡ true → (w : Worked) → Memᴰ w ws → listed w.source ≡ w.numbers
 unfolding all_listed
-each_listed [] e w m = absurd (Memᴰ.not_nil m)
+each_listed [] e w m = absurd (Memᴰ.not-nil m)
 each_listed (v ∷ ws) e w m =
     let h = (and-eq-true_iff (same (listed v.source) v.numbers) (all_listed ws)).0 e in
     elim (Memᴰ.cases_cons m) [
