@@ -7,10 +7,10 @@ use Rattle.listed.proofs.Counting.{Counting, count_none, count_other, count_zero
 use Rattle.listed.proofs.lengths.nonzero.Statement.{statement}
 use Rattle.listed.proofs.lengths.nonzero.Tie as tie
 
-abbrev invariant_loop : tie.invariant-loop
+abbrev invariant_loop : tie.invariant-loop-i
 invariant_loop t n₀ i₀ n i = Counting t n i
 
-abbrev decreases_loop : tie.decreases-loop
+abbrev decreases_loop : tie.decreases-loop-i
 decreases_loop t n₀ i₀ n i = length t - i
 
 pub nonzero_spec : {M : Type 1} → statement M
