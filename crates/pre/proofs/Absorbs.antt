@@ -12,14 +12,14 @@ use Rattle.definition.specs.Text.{byte}
 use Rattle.definition.specs.Newline.{LF, CR, char_more, newline}
 use Rattle.definition.specs.Pre.{State, multi_comment, single_comment, quote_string, angle_string, more}
 use Rattle.theorems.specs.Walk.{longer, walk}
-use Rattle.theorems.proofs.Lexing.Chars.{Goes_on, tail, cr_lf, lf_cr, goes_on}
+use Rattle.theorems.proofs.Lexing.Chars.{GoesOn, tail, cr_lf, lf_cr, goes_on}
 use Rattle.theorems.proofs.Lexing.Lines.{no_newline_byte}
 use Rattle.theorems.proofs.Lexing.Walk.{walk_same, walk_more, zero_none}
 use Rattle.pre.specs.Scan.{from}
 
 -- A state that takes every byte that goes on with a character for which P holds, and stays.
 record Absorbs (q : State) (P : ℕ → Type 0) : Type 0 where
-  takes : (c b c' : ℕ) → P c → Goes_on c b c' → (more q b ≡ some q) × (P c' × P b)
+  takes : (c b c' : ℕ) → P c → GoesOn c b c' → (more q b ≡ some q) × (P c' × P b)
 
 walk_any : (q : State) (P : ℕ → Type 0) → Absorbs q P → (c : ℕ) (bs : List ℕ) → P c → walk q c bs ≡ walk q 0 bs
 unfolding walk
@@ -38,7 +38,7 @@ from_any q P f c i s p = rw (walk_any q P f c (drop i s) p)
 
 -- A state that only the byte x changes, which goes on with no character.
 module _ (q : State) (x : ℕ) (low : x < 128) (n : LF ≡ x → ⊥) (m : CR ≡ x → ⊥) (f : (b : ℕ) → eqb b x ≡ false → more q b ≡ some q) where
-  stays : (c b c' : ℕ) → Goes_on c b c' → more q b ≡ some q
+  stays : (c b c' : ℕ) → GoesOn c b c' → more q b ≡ some q
   stays c b c' (tail e l h) = f b (ne_eqb b x (λ z. omega arith))
   stays c b c' (cr_lf e p h) = rw h (f LF (ne_eqb LF x n))
   stays c b c' (lf_cr e p h) = rw h (f CR (ne_eqb CR x m))
@@ -63,7 +63,7 @@ pub any_line : (c i : ℕ) (s : List ℕ) → newline c ≡ false → from singl
 unfolding more
 any_line c i s p = from_any single_comment (λ c. newline c ≡ false) (record { takes = takes_all }) c i s p
   where
-    takes_all : (c b c' : ℕ) → newline c ≡ false → Goes_on c b c' → (more single_comment b ≡ some single_comment) × ((newline c' ≡ false) × (newline b ≡ false))
+    takes_all : (c b c' : ℕ) → newline c ≡ false → GoesOn c b c' → (more single_comment b ≡ some single_comment) × ((newline c' ≡ false) × (newline b ≡ false))
     takes_all c b c' p (tail e l h) =
         let n : newline b ≡ false = no_newline_byte b (omega arith) (λ z. omega arith) (λ z. omega arith) in
         (rw (n, ne_eqb b (byte "\\") (λ z. omega arith)), (rw e p, n))

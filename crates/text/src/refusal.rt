@@ -1,4 +1,4 @@
-// The refusal numbers (01, Req 01, Req 03), by the names of the definition.
+// The refusal numbers (01, Req 01, Req 03), by the names of the definition: its `Refusal` up to 10, and `ValueRefusal`.
 #[derive(Clone, Copy)]
 pub struct Refusal {
     pub number: u32,

@@ -12,6 +12,6 @@ extra_spec = tie.close (tie.spec
     (λ c κs. search cases)
     (λ c. search cases)
     (λ c. search cases)
-    (λ c. extra_known c.error_row-a.ensures c.before.before.before.before.before.before.before.before.before.before.before.before.before.before.before.before.before.args.w c.before.before.before.before.before.before.before.before.before.before.before.before.before.before.before.before.before.requires.1.1.0 c.before.before.before.before.before.before.before.before.before.before.before.before.before.before.before.before.before.requires.1.1.1 c.if-known.true c.peek-x.ensures c.named_error-e.ensures c.push_error.ensures)
+    (λ c. extra_known c.error_row-a.ensures c.before.before.before.before.before.before.before.before.before.before.before.before.before.before.before.before.before.args.w c.before.before.before.before.before.before.before.before.before.before.before.before.before.before.before.before.before.requires.1.1.0 c.before.before.before.before.before.before.before.before.before.before.before.before.before.before.before.before.before.requires.1.1.1 (search cases) c.peek-x.ensures c.named_error-e.ensures c.push_error.ensures)
     (λ c. search cases)
     (λ c. search (extra_unknown, cases)))

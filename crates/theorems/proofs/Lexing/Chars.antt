@@ -36,14 +36,14 @@ module _ (c b : ℕ) (bs : List ℕ) where
   row_off e = rw (e, runs)
 
 -- How a byte b makes a character c into d: as a byte of 128 to 191, or as the second of the two newline characters.
-pub data Goes_on (c b d : ℕ) : Type 0 where
-  tail : d ≡ c → 128 ≤ b → b ≤ 191 → Goes_on c b d
-  cr_lf : d ≡ CRLF → c ≡ CR → b ≡ LF → Goes_on c b d
-  lf_cr : d ≡ CRLF → c ≡ LF → b ≡ CR → Goes_on c b d
+pub data GoesOn (c b d : ℕ) : Type 0 where
+  tail : d ≡ c → 128 ≤ b → b ≤ 191 → GoesOn c b d
+  cr_lf : d ≡ CRLF → c ≡ CR → b ≡ LF → GoesOn c b d
+  lf_cr : d ≡ CRLF → c ≡ LF → b ≡ CR → GoesOn c b d
 
 goes_on_by : (c b d : ℕ) (t u v : Bool)
     → among 192 255 c && among 128 191 b ≡ t → eqb c CR && eqb b LF ≡ u → eqb c LF && eqb b CR ≡ v
-    → (if t then some c else if u || v then some CRLF else none) ≡ some d → Goes_on c b d
+    → (if t then some c else if u || v then some CRLF else none) ≡ some d → GoesOn c b d
 goes_on_by c b d true u v ht hu hv e =
     let p = (and-eq-true_iff (among 192 255 c) (among 128 191 b)).0 ht in
     let q = (and-eq-true_iff (leb 128 b) (leb b 191)).0 p.1 in
@@ -56,13 +56,13 @@ goes_on_by c b d false false true ht hu hv e =
     lf_cr (cc) (eqb-true c LF p.0) (eqb-true b CR p.1)
 goes_on_by c b d false false false ht hu hv e = absurd (let z : ◌≡◌ {A = ℕ} 0 1 = cc in omega arith)
 
-pub goes_on : (c b d : ℕ) → char_more c b ≡ some d → Goes_on c b d
+pub goes_on : (c b d : ℕ) → char_more c b ≡ some d → GoesOn c b d
 unfolding char_more
 goes_on c b d e = goes_on_by c b d _ _ _ refl refl refl e
 
 -- What does not tell the newline characters from the two as one is the same of a character as of its first byte.
 module _ {A : Type 0} (p : ℕ → A) (lf : p LF ≡ p CRLF) (cr : p CR ≡ p CRLF) where
-  pub class_on : (c b d : ℕ) → Goes_on c b d → p d ≡ p c
+  pub class_on : (c b d : ℕ) → GoesOn c b d → p d ≡ p c
   class_on c b d (tail e h k) = ap p e
   class_on c b d (cr_lf e h k) = rw (e, h) (sym cr)
   class_on c b d (lf_cr e h k) = rw (e, h) (sym lf)

@@ -12,7 +12,7 @@ use Rattle.definition.specs.Runs.{Run, text, joined, runs, grouped}
 use Rattle.definition.specs.Newline.{LF, CR, CRLF, char_more, chars, newline}
 use Rattle.definition.specs.LineMap.{newline_ends, line_starts}
 use Rattle.theorems.proofs.Lexing.Runs.{joined_grouped}
-use Rattle.theorems.proofs.Lexing.Chars.{char_row, chars_cons, chars_later, row_on, row_off, Goes_on, tail, cr_lf, lf_cr, goes_on, class_on, class_kept}
+use Rattle.theorems.proofs.Lexing.Chars.{char_row, chars_cons, chars_later, row_on, row_off, GoesOn, tail, cr_lf, lf_cr, goes_on, class_on, class_kept}
 
 pub newline_kept : (c : ℕ) (bs : List ℕ) → newline (char_row c bs).kind ≡ newline c
 newline_kept = class_kept newline refl refl
@@ -40,7 +40,7 @@ pub no_newline_byte : (b : ℕ) → b < 256 → (b ≡ LF → ⊥) → (b ≡ CR
 no_newline_byte b h n m = rw (ne_eqb b LF n, ne_eqb b CR m, ne_eqb b CRLF (λ e. omega arith))
 
 -- What goes on with a character that is no newline is no newline.
-not_newline : (c b d : ℕ) → newline c ≡ false → Goes_on c b d → newline b ≡ false
+not_newline : (c b d : ℕ) → newline c ≡ false → GoesOn c b d → newline b ≡ false
 not_newline c b d h (tail e l m) = no_newline_byte b (omega arith) (λ e. omega arith) (λ e. omega arith)
 not_newline c b d h (cr_lf e k l) = absurd (true≢false (sym (ap newline k) ∙ h))
 not_newline c b d h (lf_cr e k l) = absurd (true≢false (sym (ap newline k) ∙ h))

@@ -13,7 +13,7 @@ use Rattle.definition.specs.Runs.{Run, text, joined, runs, grouped}
 use Rattle.definition.specs.Newline.{char_more, chars, newline}
 use Rattle.definition.specs.Unescaped.{unescaped_chars, unescaped}
 use Rattle.theorems.proofs.Lexing.Runs.{joined_grouped}
-use Rattle.theorems.proofs.Lexing.Chars.{char_row, first_char, chars_cons, chars_later, row_on, row_off, Goes_on, tail, cr_lf, lf_cr, goes_on, class_on, class_kept}
+use Rattle.theorems.proofs.Lexing.Chars.{char_row, first_char, chars_cons, chars_later, row_on, row_off, GoesOn, tail, cr_lf, lf_cr, goes_on, class_on, class_kept}
 use Rattle.theorems.proofs.Lexing.Lines.{newline_kept}
 
 abbrev pub backslash : ℕ → Bool
@@ -41,7 +41,7 @@ unfolding unescaped
 unescaped_not b bs h = rw (chars_cons b bs) (keeps (first_char b bs) _ (backslash_kept b bs ∙ h))
 
 -- What goes on with a character is no backslash.
-not_backslash : (c b d : ℕ) → Goes_on c b d → backslash b ≡ false
+not_backslash : (c b d : ℕ) → GoesOn c b d → backslash b ≡ false
 not_backslash c b d (tail e l m) = ne_eqb b (byte "\\") (λ e. omega arith)
 not_backslash c b d (cr_lf e k l) = ap backslash l
 not_backslash c b d (lf_cr e k l) = ap backslash l

@@ -19,7 +19,7 @@ use Rattle.definition.specs.Glue.{Token, tokens, flat, defined, pre_kind, token_
 use Rattle.definition.specs.Tree.{Leaf, placed}
 use Rattle.theorems.specs.Step.{glue_begin, glue_more}
 use Rattle.theorems.specs.Tabbed.{TAB, as_tab, tabbed, tabbed_token, tabbed_leaf}
-use Rattle.theorems.proofs.Lexing.Chars.{Goes_on, tail, cr_lf, lf_cr, goes_on}
+use Rattle.theorems.proofs.Lexing.Chars.{GoesOn, tail, cr_lf, lf_cr, goes_on}
 use Rattle.theorems.proofs.Lexing.Unescapes.{backslash, by_test}
 use Rattle.theorems.proofs.Tabbed.Runs.{onto, onto_same, run_as, joined_as, grouped_as}
 
@@ -45,7 +45,7 @@ char_as c b = by_tab (char_more (as_tab c)) (char_tab (as_tab c)) b ∙ go (eqb 
     go false h none e = e
     go false h (some d) e = e ∙ ap some (kept (goes_on c b d e))
       where
-        kept : Goes_on c b d → d ≡ as_tab d
+        kept : GoesOn c b d → d ≡ as_tab d
         kept (tail q _ _) = rw (q, h)
         kept (cr_lf q _ _) = rw q
         kept (lf_cr q _ _) = rw q

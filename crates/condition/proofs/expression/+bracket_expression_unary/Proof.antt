@@ -82,16 +82,16 @@ pub +bracket_expression_unary_spec : {M : Type 1} → statement M
     (λ c. not_begun _ _ _ _ _ _ _ c.unary-a.ensures c.if-not-a.true)
     (λ c. begun _ _ _ _ _ _ _ c.unary-a.ensures c.if-not-a.false)
     (λ c κs. search rules)
-    (λ c. climbed _ _ _ _ _ _ _ c.unary-a.ensures c.if-not-a.false _ c.loop-t.invariant _ c.rank-above.ensures c.if-above-rank.true)
+    (λ c. climbed _ _ _ _ _ _ _ c.unary-a.ensures c.if-not-a.false _ c.loop-t.invariant _ c.rank-above.ensures (search rules))
     (λ c κs. (c.requires.1.table, c.requires.1.short))
     (λ c κs. (
-      let l = climb_fewer _ _ _ _ _ _ _ c.unary-a.ensures c.if-not-a.false _ c.loop-t.invariant _ c.rank-above.ensures c.if-above-rank.false _ c.next-y.ensures in omega (arith, c.requires.0, l),
+      let l = climb_fewer _ _ _ _ _ _ _ c.unary-a.ensures c.if-not-a.false _ c.loop-t.invariant _ c.rank-above.ensures (search rules) _ c.next-y.ensures in omega (arith, c.requires.0, l),
       standing_at c.requires.1 c.next-y.ensures.stands,
     ))
-    (λ c. not_joined _ _ _ _ _ _ _ c.unary-a.ensures c.if-not-a.false _ c.loop-t.invariant _ c.rank-above.ensures c.if-above-rank.false _ c.next-y.ensures _ c.expression-b.ensures c.if-not-b.true)
+    (λ c. not_joined _ _ _ _ _ _ _ c.unary-a.ensures c.if-not-a.false _ c.loop-t.invariant _ c.rank-above.ensures (search rules) _ c.next-y.ensures _ c.expression-b.ensures c.if-not-b.true)
     (λ c κs. search rules)
-    (λ c. nearer _ _ _ _ _ _ _ c.unary-a.ensures c.if-not-a.false _ c.loop-t.invariant _ c.rank-above.ensures c.if-above-rank.false _ c.next-y.ensures _ c.expression-b.ensures c.if-not-b.false _ c.joined-a.ensures)
-    (λ c. climbs_on _ _ _ _ _ _ _ c.unary-a.ensures c.if-not-a.false _ c.loop-t.invariant _ c.rank-above.ensures c.if-above-rank.false _ c.next-y.ensures _ c.expression-b.ensures c.if-not-b.false _ c.joined-a.ensures))
+    (λ c. nearer _ _ _ _ _ _ _ c.unary-a.ensures c.if-not-a.false _ c.loop-t.invariant _ c.rank-above.ensures (search rules) _ c.next-y.ensures _ c.expression-b.ensures c.if-not-b.false _ c.joined-a.ensures)
+    (λ c. climbs_on _ _ _ _ _ _ _ c.unary-a.ensures c.if-not-a.false _ c.loop-t.invariant _ c.rank-above.ensures (search rules) _ c.next-y.ensures _ c.expression-b.ensures c.if-not-b.false _ c.joined-a.ensures))
     (λ t. unary_lts.spec
     (is_sign_reads.Asked, is_sign_reads.Learnt, nothing_reads.Asked, nothing_reads.Learnt, next_reads.Asked, next_reads.Learnt, unary_below t, unary.Post, signed_Reads.Asked, signed_Reads.Learnt, bracket_below t, bracket.Post, operand_reads.Asked, operand_reads.Learnt)
     (unary_at t)
