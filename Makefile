@@ -27,14 +27,16 @@ library: $(made)
 	@test -r "$(library)" || { echo "$(library) can't be read" >&2; exit 2; }
 	@echo "$(library) is there" >&2
 
-sources := $(shell find crates -type f '(' -path '*/src/*' -o -path '*/specs/*' -o -path '*/proofs/*' ')')
+# All that rt reads of the crates, and nothing that it writes.
+sources := $(shell find crates -name out -prune -o \
+	-type f '(' -path '*/src/*' -o -path '*/specs/*' -o -path '*/proofs/*' ')' -print)
 build/libshader_reader.a: crates.txt $(sources)
 	@command -v rt >/dev/null || \
 		{ echo 'rt, the Rattle toolchain, is not found: install it, or set SHADER_READER_LIB' >&2; exit 2; }
 	@echo 'proving the crates, which takes some minutes' >&2
-	@rt staticlib shader_reader >&2
+	@cd crates/shader_reader_c && rt lib >&2
 	@mkdir -p build
-	@cp target/staticlib/libshader_reader.a $@
+	@cp crates/shader_reader_c/out/libshader_reader_c.a $@
 
 shared: build/$(soname)
 build/$(soname): $(made)

@@ -1,5 +1,5 @@
 #!/bin/sh
-# Holds include/shader_reader.h to the definition (crates/definition) and to the exports (crates/shader_reader): names,
+# Holds include/shader_reader.h to the definition (crates/definition) and to the exports (crates/shader_reader_c): names,
 # numbers, columns, calls, answers. Prints what differs, and how much was compared.
 #
 #     definition.sh          compares
@@ -19,7 +19,7 @@ record_of() {
         sub(/}.*/, "", fields)
         n = split(fields, field, ";")
         for (i = 1; i <= n; i++) if (split(field[i], part, "=") == 2) {
-            gsub(/[ {]/, "", part[1]); gsub(/-/, "_", part[1])
+            gsub(/[ {]/, "", part[1])
             print front toupper(part[1]) back, part[2] + 0
         }
     }'
@@ -42,10 +42,10 @@ columns_of() {
         for (i = 1; i <= n; i++) print front name(item[i]), i - 1
     }
     function name(text) {
-        if (text ~ /expected\) 1/) return "SECOND_EXPECTED"
+        if (text ~ /expected 1/) return "SECOND_EXPECTED"
         if (text ~ /^ *at *$/) return "START"
         if (text ~ /^ *\(at \+/) return "END"
-        sub(/.* \./, "", text); sub(/[) ].*/, "", text); gsub(/-/, "_", text)
+        sub(/.*\./, "", text); sub(/ .*/, "", text)
         return toupper(text)
     }'
 }
@@ -54,14 +54,14 @@ defined_numbers() {
     record_of SyntaxKind.antt Kind SHADER_KIND_
     record_of Calls.antt Refusal SHADER_REFUSAL_
     number_of Calls.antt 'refusal \[\]' SHADER_REFUSAL_NONE
-    number_of Calls.antt longest-source SHADER_SOURCE_LIMIT
-    number_of Calls.antt most-concats SHADER_CONCAT_LIMIT
+    number_of Calls.antt longest_source SHADER_SOURCE_LIMIT
+    number_of Calls.antt most_concats SHADER_CONCAT_LIMIT
     record_of Error.antt ErrorKind SHADER_SORT_
     record_of Tree.antt Form SHADER_FORM_
     record_of Tree.antt Width SHADER_ _NUMBERS
-    columns_of Tree.antt entry-numbers SHADER_ENTRY_
-    columns_of Error.antt error-numbers SHADER_ERROR_
-    columns_of Glue.antt token-numbers SHADER_TOKEN_
+    columns_of Tree.antt entry_numbers SHADER_ENTRY_
+    columns_of Error.antt error_numbers SHADER_ERROR_
+    columns_of Glue.antt token_numbers SHADER_TOKEN_
 }
 
 # All numbers of the header but its version and its stack, which the definition doesn't know.
@@ -72,7 +72,7 @@ header_numbers() {
 
 # The exports, and the calls of the header: name, type of the answer, types of the arguments.
 exported_calls() {
-    tr '\n' ' ' <"$top/crates/shader_reader/src/lib.rt" | awk '{
+    tr '\n' ' ' <"$top/crates/shader_reader_c/src/lib.rt" | awk '{
         while (match($0, /pub extern "C" fn [a-z_]+\([^)]*\) -> [A-Za-z]+/)) {
             one = substr($0, RSTART + 18, RLENGTH - 18); $0 = substr($0, RSTART + RLENGTH)
             open = index(one, "("); close_ = index(one, ")")

@@ -1,7 +1,7 @@
 # The Makefile, and README's programs in C and C++, in a copy of the repository; a part of hosts/check/run.
 copy=$work/copy
 mkdir "$copy"
-tar --exclude=./target --exclude=./build --exclude='./hosts/*/target' --exclude=./.git -cf - . | tar -xf - -C "$copy"
+tar --exclude=./build --exclude='./crates/*/out' --exclude='./hosts/*/target' --exclude=./.git -cf - . | tar -xf - -C "$copy"
 
 try "make: help, files, what is proved when" hosts/check/commands.sh "$copy"
 try "make shared: a program over libshader_reader.so" hosts/check/shared.sh "$copy"

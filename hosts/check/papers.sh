@@ -1,7 +1,7 @@
 # The papers: what they link is there, and so is the code that they name; a part of hosts/check/run.
 
 links() {
-    find . -name '*.md' ! -path './target/*' ! -path './build/*' >"$work/papers"
+    find . -name '*.md' ! -path './build/*' ! -path './crates/*/out/*' >"$work/papers"
     while read -r paper; do
         for link in $(grep -o '\](\([^)# ]*\)' "$paper" | sed 's/^](//'); do
             case $link in http*) continue ;; esac

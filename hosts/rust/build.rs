@@ -41,17 +41,23 @@ fn library() -> Result<PathBuf, String> {
     prove(root)
 }
 
-/// Runs `rt staticlib shader_reader` in the repository's root.
+/// Runs `rt lib` in the folder of the crate `shader_reader_c`.
 fn prove(root: &Path) -> Result<PathBuf, String> {
     let crates = root.join("crates");
-    if !crates.join("shader_reader").is_dir() {
+    let exports = crates.join("shader_reader_c");
+    if !exports.is_dir() {
         return Err(format!("there is no library, and no sources of it in {}; {ADVICE}", crates.display()));
     }
-    rerun_if_changed(&crates);
-    let status = Command::new("rt").args(["staticlib", "shader_reader"]).current_dir(root).status();
+    rerun_if_changed(&root.join("crates.txt"));
+    // And not what `rt` writes beside these.
+    for folder in fs::read_dir(&crates).into_iter().flatten().flatten() {
+        let parts = ["src", "specs", "proofs"].map(|part| folder.path().join(part));
+        parts.iter().filter(|part| part.is_dir()).for_each(|part| rerun_if_changed(part));
+    }
+    let status = Command::new("rt").arg("lib").current_dir(&exports).status();
     match status {
-        Ok(status) if status.success() => Ok(root.join("target/staticlib").join(FILE)),
-        Ok(status) => Err(format!("`rt staticlib shader_reader` failed ({status}); {ADVICE}")),
+        Ok(status) if status.success() => Ok(exports.join("out/libshader_reader_c.a")),
+        Ok(status) => Err(format!("`rt lib` failed in {} ({status}); {ADVICE}", exports.display())),
         Err(error) => Err(format!("`rt`, which proves and builds the library, can't be run ({error}); {ADVICE}")),
     }
 }

@@ -53,10 +53,10 @@ fn sorts() -> Numbers {
     let sort = |src: &str| {
         let error = read(src.as_bytes()).unwrap().errors().next().unwrap();
         let name = match error.kind {
-            ErrorKind::UnknownPreprocessorDirective { .. } => "unknown-directive",
-            ErrorKind::ExtraTokensInPreprocessorDirective { .. } => "extra-tokens",
+            ErrorKind::UnknownPreprocessorDirective { .. } => "unknown_directive",
+            ErrorKind::ExtraTokensInPreprocessorDirective { .. } => "extra_tokens",
             ErrorKind::Unexpected { .. } => "unexpected",
-            ErrorKind::EndOfInput { .. } => "end-of-input",
+            ErrorKind::EndOfInput { .. } => "end_of_input",
         };
         (name.to_string(), error.kind.sort())
     };
@@ -77,8 +77,8 @@ fn the_definition_has_the_same_numbers() {
     assert_eq!(record(&definition("Tree"), "Width"), widths());
     let forms = [("leaf", Form::Leaf), ("node", Form::Node)].map(|(name, form)| (name.to_string(), form as u32));
     assert_eq!(record(&definition("Tree"), "Form"), forms.into());
-    assert_eq!(constant(&definition("Calls"), "longest-source"), SOURCE_LIMIT);
-    assert_eq!(constant(&definition("Calls"), "most-concats"), CONCAT_LIMIT);
+    assert_eq!(constant(&definition("Calls"), "longest_source"), SOURCE_LIMIT);
+    assert_eq!(constant(&definition("Calls"), "most_concats"), CONCAT_LIMIT);
     assert_eq!(kinds().len(), 86);
     assert_eq!(refusals().len(), 10);
     assert_eq!(sorts().len(), 4);
@@ -100,7 +100,7 @@ fn the_header_has_the_same_numbers() {
     let mut with_none = refusals();
     with_none.insert("NONE".to_string(), 0);
     assert_eq!(header_names(&header, "SHADER_REFUSAL_"), with_none);
-    let upper = |(name, sort): (String, u32)| (name.replace('-', "_").to_uppercase(), sort);
+    let upper = |(name, sort): (String, u32)| (name.to_uppercase(), sort);
     assert_eq!(header_names(&header, "SHADER_SORT_"), sorts().into_iter().map(upper).collect());
     for (name, width) in widths() {
         let found = header_names(&header, &format!("SHADER_{}_", name.to_uppercase()));
