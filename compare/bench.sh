@@ -8,7 +8,7 @@ here=$(cd "$(dirname "$0")" && pwd)
 [ $# -ge 1 ] || { echo "usage: bench.sh ORACLE [calls | reading | shapes | growth .. | files FILE .. | instructions [SHAPE ..]]" >&2; exit 2; }
 "$here/build.sh" "$1" || exit 2
 shift
-bench=$here/../target/compare-host/target/release/bench
+bench=$here/../build/compare-host/target/release/bench
 [ "${1:-}" = instructions ] || exec "$bench" "$@"
 shift
 

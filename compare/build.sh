@@ -1,7 +1,7 @@
 #!/usr/bin/env bash
-# Builds the programs `host` and `bench` in target/compare-host: build.sh ORACLE
+# Builds the programs `host` and `bench` in build/compare-host: build.sh ORACLE
 #
-# The static library is proved and built first by `rt staticlib shader_reader`; if LIBRARY is set, the file
+# The static library is proved and built first by `rt lib` in crates/shader_reader_c; if LIBRARY is set, the file
 # libshader_reader.a that it names is linked instead. If BEFORE is set, the libshader_reader.a of an earlier
 # commit that it names is linked beside it, for `host` to compare with and `bench` to time. The Rust's files
 # are looked for in ORACLE/../docs/src, or in the folder that ORACLE_DOCS names.
@@ -11,15 +11,16 @@ top=$(cd "$(dirname "$0")/.." && pwd)
 oracle=$(cd "$1" && pwd)
 [ -d "${ORACLE_DOCS:-$oracle/../docs/src}" ] || { echo "no ${ORACLE_DOCS:-$oracle/../docs/src}: set ORACLE_DOCS" >&2; exit 2; }
 
+work=$top/build/compare-host
+mkdir -p "$work"
 if [ -n "${LIBRARY:-}" ]; then
   library=$(cd "$(dirname "$LIBRARY")" && pwd)/$(basename "$LIBRARY")
 else
-  (cd "$top" && rt staticlib shader_reader) >&2
-  library=$top/target/staticlib/libshader_reader.a
+  (cd "$top/crates/shader_reader_c" && rt lib) >&2
+  library=$work/libshader_reader.a
+  cp "$top/crates/shader_reader_c/out/libshader_reader_c.a" "$library"
 fi
 
-work=$top/target/compare-host
-mkdir -p "$work"
 export SHADER_READER_LIBRARY=$library
 if [ -n "${BEFORE:-}" ]; then
   export SHADER_READER_BEFORE=$work/libshader_reader_before.a

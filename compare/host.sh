@@ -7,4 +7,4 @@ here=$(cd "$(dirname "$0")" && pwd)
 [ $# -ge 1 ] || { echo "usage: host.sh ORACLE [[before] [quick] [calls | reading | KIND ..] | [before] files FILE .. | kinds]" >&2; exit 2; }
 "$here/build.sh" "$1" || exit 2
 shift
-exec "$here/../target/compare-host/target/release/host" "$@"
+exec "$here/../build/compare-host/target/release/host" "$@"

@@ -5,7 +5,7 @@ usage: pins.py ORACLE
 
 ORACLE is the folder of the oracle, built. A row is a call with its input, and behind it the answer in parentheses. The
 answers are written anew, so a row is added as its call with `()` behind it; a file whose answers are the Rust's stays as it is.
-The input is a text, or in parentheses a row of bytes, in which texts may stand too; the call's name then ends with `-of`. A source
+The input is a text, or in parentheses a row of bytes, in which texts may stand too; the call's name then ends with `_of`. A source
 that ends inside a character is refused by 10 (`cut.py`), where the Rust refuses it by 2; of one with vertical tabs the Rust's
 answer to tabs in their place is put in, but for unescaping (`tabs.py`).
 """
@@ -70,7 +70,7 @@ def renewed(m):
 
 def main():
     rest = rf'\((?:{TEXT}|\([^()"]*\)|[^()"])*\)'
-    row = re.compile(rf'^    (({"|".join(CALLS)})(?:-of)? ({TEXT}|{rest}))\s*\([^()]*\) ∷', re.M)
+    row = re.compile(rf'^    (({"|".join(CALLS)})(?:_of)? ({TEXT}|{rest}))\s*\([^()]*\) ∷', re.M)
     for file in sorted((TOP / "crates/definition/proofs").glob("*.antt")):
         old = file.read_text()
         new, rows = row.subn(renewed, old)
