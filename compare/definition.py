@@ -9,9 +9,9 @@ that hold vertical tabs, of which the Rust is asked with tabs in their place (ta
 reading, body, tokens, lines and unescaping, with tables just long enough and, of each call, one number short; lookups
 and pastes get inputs of their own. So do these five calls on sources that are refused, with no table and with some: each
 beginning of a character (cut.py) alone, some of them behind text and before it, and what is no beginning.
-Works in target/compare; prints what was compared, and each difference.
+Works in a new temporary folder, which stays where there are differences; prints what was compared, and each difference.
 """
-import os, random, re, shutil, subprocess, sys
+import random, re, shutil, subprocess, sys, tempfile
 from pathlib import Path
 
 import cut, tabs
@@ -20,7 +20,7 @@ if len(sys.argv) < 2:
     sys.exit(__doc__)
 TOP = Path(__file__).resolve().parent.parent
 ORACLE, WANT = Path(sys.argv[1]) / "target/release", int(sys.argv[2]) if len(sys.argv) > 2 else 2400
-WORK, PER_FILE, LONGEST, AT_ONCE = TOP / "target/compare", 100, 120, 50
+PER_FILE, LONGEST, AT_ONCE = 100, 120, 50
 SOURCE_CALLS = "read", "body", "tokens", "lines", "unescape"
 
 def run(program, *words, given=b""):
@@ -106,54 +106,54 @@ def refused(found):
 def row(numbers):
     return " ∷ ".join(map(str, [*numbers, "[]"]))
 
-HEAD = """use mathlib.Core.Path.{_≡_, refl}
-use mathlib.Core.List.{List, [], _∷_}
-use Rattle·compared·specs.specs.Shown.{read-as, body-as, tokens-as, lines-as, unescape-as, lookup-as, paste-as, refused-as}
+HEAD = """use mathlib.Core.Path.{◌≡◌, refl}
+use Rattle.definition.specs.Text.{[], ◌∷◌}
+use Rattle.compared.specs.Shown.{read_as, body_as, tokens_as, lines_as, unescape_as, lookup_as, paste_as, refused_as}
 
 """
 
 def shown():
     """The outcomes as rows of numbers, each computable under its own name."""
-    listed = (TOP / "crates/definition/specs/Listed.antt").read_text().replace("Rattle·definition·specs.specs", "Rattle·definition.specs")
-    unf = re.search(r"^unfolding (.*)$", listed, re.M)[1].replace("full-reading outcome reading", "full-reading")
-    uses = "\n".join(l for l in listed.splitlines() if l.startswith("use ") and ".Calls." not in l and ".Text." not in l)
-    calls = "reading reading-body listing-tokens building-lines unescaping looking-up pasting".split()
-    extra = "rises line-table pasted-kind parse-define-body token-numbers".split()
+    listed = (TOP / "crates/definition/specs/Listed.antt").read_text()
+    unf = re.search(r"^unfolding (.*)$", listed, re.M)[1].replace("full_reading outcome reading", "full_reading")
+    uses = "\n".join(l for l in listed.splitlines() if l.startswith("use ") and not re.search(r"\.(Calls|Text|Condition)\.", l))
+    calls = "reading reading_body listing_tokens building_lines unescaping looking_up pasting".split()
+    extra = "rises line_table pasted_kind parse_define_body token_numbers".split()
     return f"""-- The outcomes as rows of numbers, to be computed.
-use Rattle·definition.specs.Text.{{ℕ, _+_, _*_, List, [], _∷_, _++_, take, length, ascii, same}}
+use Rattle.definition.specs.Text.{{ℕ, ◌+◌, ◌*◌, List, [], ◌∷◌, ◌++◌, take, length, ascii, same}}
 {uses}
-use Rattle·definition.specs.LineMap.{{rises, line-table}}
-use Rattle·definition.specs.Glue.{{pasted-kind, token-numbers}}
-use Rattle·definition.specs.Syntax.{{parse-define-body}}
-use Rattle·definition.specs.Calls.{{refusal, too-many, padded, filled, full-reading, outcome, Filled, {', '.join(calls)}}}
+use Rattle.definition.specs.LineMap.{{rises, line_table}}
+use Rattle.definition.specs.Glue.{{pasted_kind, token_numbers}}
+use Rattle.definition.specs.Syntax.{{parse_define_body}}
+use Rattle.definition.specs.Calls.{{refusal, too_many, padded, filled, full_reading, outcome, Filled, {', '.join(calls)}}}
 
 abbrev shown : Filled → List ℕ
-shown f = f .refused ∷ f .count ∷ f .table
+shown f = f.refused ∷ f.count ∷ f.table
 
 -- Reading, with tables of these lengths.
-unfoldable pub read-as : List ℕ → ℕ → ℕ → ℕ → List ℕ
+unfoldable pub read_as : List ℕ → ℕ → ℕ → ℕ → List ℕ
 unfolding {unf} outcome reading
-read-as s a b c = let r = reading s a b c in
-  r .refused ∷ r .entry-count ∷ r .error-count ∷ r .line-count ∷ (r .entry-table ++ (r .error-table ++ r .line-table))
+read_as s a b c = let r = reading s a b c in
+  r.refused ∷ r.entry_count ∷ r.error_count ∷ r.line_count ∷ (r.entry_table ++ (r.error_table ++ r.line_table))
 
-""" + "\n\n".join(f"""unfoldable pub {name}-as : List ℕ → ℕ → List ℕ
+""" + "\n\n".join(f"""unfoldable pub {name}_as : List ℕ → ℕ → List ℕ
 unfolding {unf} {' '.join(extra)} {call}
-{name}-as s room = shown ({call} s room)""" for name, call in
-        [("body", "reading-body"), ("tokens", "listing-tokens"), ("lines", "building-lines"), ("unescape", "unescaping")]) + f"""
+{name}_as s room = shown ({call} s room)""" for name, call in
+        [("body", "reading_body"), ("tokens", "listing_tokens"), ("lines", "building_lines"), ("unescape", "unescaping")]) + f"""
 
-unfoldable pub lookup-as : List ℕ → ℕ → List ℕ
-unfolding {' '.join(extra)} refusal last-line get-line-and-col looking-up
-lookup-as l o = let r = looking-up l o in r .refused ∷ r .line ∷ r .column ∷ []
+unfoldable pub lookup_as : List ℕ → ℕ → List ℕ
+unfolding {' '.join(extra)} refusal last_line get_line_and_col looking_up
+lookup_as l o = let r = looking_up l o in r.refused ∷ r.line ∷ r.column ∷ []
 
-unfoldable pub paste-as : ℕ → ℕ → List ℕ
-unfolding refusal glued pasted-kind pasting
-paste-as a b = let r = pasting a b in r .refused ∷ r .kind ∷ []
+unfoldable pub paste_as : ℕ → ℕ → List ℕ
+unfolding refusal glued pasted_kind pasting
+paste_as a b = let r = pasting a b in r.refused ∷ r.kind ∷ []
 
 -- The five calls on each of the sources, with tables of that length.
-unfoldable pub refused-as : List (List ℕ) → ℕ → List ℕ
-unfolding read-as body-as tokens-as lines-as unescape-as
-refused-as [] room = []
-refused-as (s ∷ ss) room = read-as s room room room ++ (body-as s room ++ (tokens-as s room ++ (lines-as s room ++ (unescape-as s room ++ refused-as ss room))))
+unfoldable pub refused_as : List (List ℕ) → ℕ → List ℕ
+unfolding read_as body_as tokens_as lines_as unescape_as
+refused_as [] room = []
+refused_as (s ∷ ss) room = read_as s room room room ++ (body_as s room ++ (tokens_as s room ++ (lines_as s room ++ (unescape_as s room ++ refused_as ss room))))
 """
 
 def tests(found):
@@ -200,27 +200,30 @@ def main():
     given = refused(found)
     found += tab_sources(found)
     all_tests = tests(found) + list(refused_tests(given))
-    shutil.rmtree(WORK, ignore_errors=True)
-    specs = WORK / "crates/compared/specs"
-    specs.mkdir(parents=True)
-    (WORK / "crates/compared/src").mkdir()
-    (WORK / "crates/compared/src/lib.rt").write_text("// no code\n")
-    shutil.copytree(TOP / "crates/definition", WORK / "crates/definition", ignore=shutil.ignore_patterns("must-fail", "proofs"))
-    (WORK / "crates.txt").write_text("definition:\ncompared: definition\n")
-    (specs / "Shown.antt").write_text(shown())
-    names = ["Shown"]
+    work = Path(tempfile.mkdtemp(prefix="definition-"))
+    compared, definition = work / "crates/compared", work / "crates/definition"
+    for part in "src", "specs", "proofs":
+        (compared / part).mkdir(parents=True)
+    (compared / "src/lib.rt").write_text("// no code\n")
+    shutil.copytree(TOP / "crates/definition", definition, ignore=shutil.ignore_patterns("must-fail", "proofs", "out"))
+    (work / "crates.txt").write_text("definition:\ncompared: definition\n")
+    (compared / "specs/Lib.antt").write_text("pub mod Shown\n")
+    (compared / "specs/Shown.antt").write_text(shown())
+    names = []
     for i in range(0, len(all_tests), PER_FILE):
         name = f"T{i // PER_FILE}"
         names.append(name)
-        (specs / f"{name}.antt").write_text(HEAD + "\n".join(
-            f"t{i + k} : {call}-as {args} ≡ {row(want)}\nunfolding {call}-as\nt{i + k} = refl\n" for k, (call, args, want) in enumerate(all_tests[i:i + PER_FILE])))
-    (specs / "Lib.antt").write_text("".join(f"pub mod {n}\n" for n in names))
-    done = subprocess.run(["rt", "check", "compared"], cwd=WORK, stdout=subprocess.PIPE, stderr=subprocess.STDOUT, text=True, env={**os.environ, "RT_CUT": "0"})
+        (compared / f"proofs/{name}.antt").write_text(HEAD + "\n".join(
+            f"t{i + k} : {call}_as {args} ≡ {row(want)}\nunfolding {call}_as\nt{i + k} = refl\n" for k, (call, args, want) in enumerate(all_tests[i:i + PER_FILE])))
+    (compared / "proofs/Lib.antt").write_text("".join(f"pub mod {n}\n" for n in names))
+    done = subprocess.run(["rt", "check"], cwd=compared, stdout=subprocess.PIPE, stderr=subprocess.STDOUT, text=True)
     counts = {c: sum(1 for t in all_tests if t[0] == c) for c in (*SOURCE_CALLS, "lookup", "paste")}
-    (WORK / "out").write_text(done.stdout)
+    (work / "said").write_text(done.stdout)
     for line in re.findall(r"^.*: error.*$", done.stdout, re.M)[:20]:
         print(line[:600])
-    print(f"{len(found)} sources, {sum(map(tabs.holds, found))} of them with vertical tabs;", ", ".join(f"{c} {n}" for c, n in counts.items()), f"outcomes, and {len(given)} refused sources compared:", "no difference" if done.returncode == 0 else "DIFFERENCES")
+    print(f"{len(found)} sources, {sum(map(tabs.holds, found))} of them with vertical tabs;", ", ".join(f"{c} {n}" for c, n in counts.items()), f"outcomes, and {len(given)} refused sources compared:", f"DIFFERENCES, see {work}/said" if done.returncode else "no difference")
+    if done.returncode == 0:
+        shutil.rmtree(work)
     return done.returncode
 
 sys.exit(main())
