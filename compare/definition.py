@@ -106,8 +106,8 @@ def refused(found):
 def row(numbers):
     return " ∷ ".join(map(str, [*numbers, "[]"]))
 
-HEAD = """use mathlib.Core.Path.{◌≡◌, refl}
-use Rattle.definition.specs.Text.{[], ◌∷◌}
+HEAD = """use mathlib.Core.Path.{refl}
+use Rattle.std.specs.Prelude.{[], ◌∷◌, ◌≡◌}
 use Rattle.compared.specs.Shown.{read_as, body_as, tokens_as, lines_as, unescape_as, lookup_as, paste_as, refused_as}
 
 """
@@ -116,11 +116,12 @@ def shown():
     """The outcomes as rows of numbers, each computable under its own name."""
     listed = (TOP / "crates/definition/specs/Listed.antt").read_text()
     unf = re.search(r"^unfolding (.*)$", listed, re.M)[1].replace("full_reading outcome reading", "full_reading")
-    uses = "\n".join(l for l in listed.splitlines() if l.startswith("use ") and not re.search(r"\.(Calls|Text|Condition)\.", l))
+    uses = "\n".join(l for l in listed.splitlines() if l.startswith("use ") and not re.search(r"\.(Prelude|Text|Calls|Condition)\.", l))
     calls = "reading reading_body listing_tokens building_lines unescaping looking_up pasting".split()
     extra = "rises line_table pasted_kind parse_define_body token_numbers".split()
     return f"""-- The outcomes as rows of numbers, to be computed.
-use Rattle.definition.specs.Text.{{ℕ, ◌+◌, ◌*◌, List, [], ◌∷◌, ◌++◌, take, length, ascii, same}}
+use Rattle.std.specs.Prelude.{{ℕ, List, [], ◌∷◌, ◌++◌}}
+use Rattle.definition.specs.Text.{{ascii, same}}
 {uses}
 use Rattle.definition.specs.LineMap.{{rises, line_table}}
 use Rattle.definition.specs.Glue.{{pasted_kind, token_numbers}}

@@ -48,11 +48,14 @@ fn prove(root: &Path) -> Result<PathBuf, String> {
     if !exports.is_dir() {
         return Err(format!("there is no library, and no sources of it in {}; {ADVICE}", crates.display()));
     }
+    // What `rt` reads, and not what it writes beside it.
     rerun_if_changed(&root.join("crates.txt"));
-    // And not what `rt` writes beside these.
     for folder in fs::read_dir(&crates).into_iter().flatten().flatten() {
-        let parts = ["src", "specs", "proofs"].map(|part| folder.path().join(part));
-        parts.iter().filter(|part| part.is_dir()).for_each(|part| rerun_if_changed(part));
+        for part in ["src", "specs", "proofs"].map(|part| folder.path().join(part)) {
+            if part.is_dir() {
+                rerun_if_changed(&part);
+            }
+        }
     }
     let status = Command::new("rt").arg("lib").current_dir(&exports).status();
     match status {
