@@ -39,7 +39,9 @@ fn left<P: Print>(
     entries: &[u32],
     errors: &[u32],
     lines: &[u32],
-) -> io::Result<()> {
+) -> io::Result<()>
+    ensures { Unit {0} }
+{
     print::word(rt, text)?;
     print::fields(rt, &[got.refusal, got.entries, got.errors, got.lines])?;
     print::number(rt, nonzero(entries))?;
@@ -49,7 +51,9 @@ fn left<P: Print>(
 }
 
 // and of a body.
-fn left_of_body<P: Print>(rt: &P, text: &[u8], got: Counted, entries: &[u32]) -> io::Result<()> {
+fn left_of_body<P: Print>(rt: &P, text: &[u8], got: Counted, entries: &[u32]) -> io::Result<()>
+    ensures { Unit {0} }
+{
     print::word(rt, text)?;
     print::fields(rt, &[got.refusal, got.count])?;
     print::number(rt, nonzero(entries))?;
@@ -116,6 +120,7 @@ fn alone<P: Print>(rt: &P, src: &[u8], a: usize, b: usize, c: usize) -> io::Resu
     requires a_le_most { a ≤ most }
     requires b_le_most { b ≤ most }
     requires c_le_most { c ≤ most }
+    ensures { Unit {0} }
 {
     read(rt, b"entries short", src, less(a), b, c).1?;
     read(rt, b"lines short", src, a, b, less(c)).1?;
@@ -130,6 +135,7 @@ fn together<P: Print>(rt: &P, src: &[u8], a: usize, b: usize, c: usize) -> io::R
     requires a_le_most { a ≤ most }
     requires b_le_most { b ≤ most }
     requires c_le_most { c ≤ most }
+    ensures { Unit {0} }
 {
     read(rt, b"all short", src, less(a), less(b), less(c)).1?;
     read(rt, b"none", src, 0, 0, 0).1?;
@@ -140,7 +146,9 @@ fn together<P: Print>(rt: &P, src: &[u8], a: usize, b: usize, c: usize) -> io::R
 }
 
 // Reads a source with tables that are long enough, just long enough, and short.
-pub fn readings<P: Print>(rt: &P, src: &[u8]) -> io::Result<()> {
+pub fn readings<P: Print>(rt: &P, src: &[u8]) -> io::Result<()>
+    ensures { Unit {0} }
+{
     let (got, printed) = read(rt, b"long enough", src, MOST, MOST, MOST);
     printed?;
     if got.refusal != 0 {
@@ -155,7 +163,9 @@ pub fn readings<P: Print>(rt: &P, src: &[u8]) -> io::Result<()> {
 }
 
 // Reads it as a define body.
-pub fn bodies<P: Print>(rt: &P, src: &[u8]) -> io::Result<()> {
+pub fn bodies<P: Print>(rt: &P, src: &[u8]) -> io::Result<()>
+    ensures { Unit {0} }
+{
     let (got, printed) = body(rt, b"body", src, MOST);
     printed?;
     if got.refusal != 0 {

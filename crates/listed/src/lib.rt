@@ -42,7 +42,9 @@ pub fn list<P: Print>(
 
 // Prints the listing of a source, or that it is too long for one. In every run n bytes had at most 2n+1 entries and
 // n errors, which is not proved: a reading that needed more would be refused and listed as such.
-pub fn listing<P: Print>(rt: &P, src: &[u8]) -> io::Result<()> {
+pub fn listing<P: Print>(rt: &P, src: &[u8]) -> io::Result<()>
+    ensures { Unit {0} }
+{
     if LONGEST < src.len() {
         return print::word(rt, b"long\n");
     }

@@ -15,23 +15,31 @@ pub const ERROR: usize = 10;
 const LEAF: u32 = 0;
 
 // Prints a word,
-pub fn word<P: Print>(rt: &P, text: &[u8]) -> io::Result<()> {
+pub fn word<P: Print>(rt: &P, text: &[u8]) -> io::Result<()>
+    ensures { Unit {0} }
+{
     rt.write_all(text)
 }
 
 // a number behind it,
-pub fn number<P: Print>(rt: &P, n: usize) -> io::Result<()> {
+pub fn number<P: Print>(rt: &P, n: usize) -> io::Result<()>
+    ensures { Unit {0} }
+{
     rt.write_all(b",")?;
     rt.print(n)
 }
 
 // which may be one of a table,
-fn field<P: Print>(rt: &P, n: u32) -> io::Result<()> {
+fn field<P: Print>(rt: &P, n: u32) -> io::Result<()>
+    ensures { Unit {0} }
+{
     number(rt, n as usize)
 }
 
 // or all of a row of them,
-pub fn fields<P: Print>(rt: &P, row: &[u32]) -> io::Result<()> {
+pub fn fields<P: Print>(rt: &P, row: &[u32]) -> io::Result<()>
+    ensures { Unit {0} }
+{
     for n in row {
         field(rt, *n)?;
     }
@@ -39,18 +47,24 @@ pub fn fields<P: Print>(rt: &P, row: &[u32]) -> io::Result<()> {
 }
 
 // a value,
-pub fn signed<P: Print>(rt: &P, x: i32) -> io::Result<()> {
+pub fn signed<P: Print>(rt: &P, x: i32) -> io::Result<()>
+    ensures { Unit {0} }
+{
     rt.write_all(b",")?;
     rt.print(x)
 }
 
 // and the end of the line.
-pub fn end<P: Print>(rt: &P) -> io::Result<()> {
+pub fn end<P: Print>(rt: &P) -> io::Result<()>
+    ensures { Unit {0} }
+{
     rt.write_all(b"\n")
 }
 
 // Prints a line: a word and a row.
-fn line<P: Print>(rt: &P, text: &[u8], row: &[u32]) -> io::Result<()> {
+fn line<P: Print>(rt: &P, text: &[u8], row: &[u32]) -> io::Result<()>
+    ensures { Unit {0} }
+{
     word(rt, text)?;
     fields(rt, row)?;
     end(rt)
@@ -70,6 +84,7 @@ fn used(t: &[u32], n: usize) -> usize
 // Prints the rows of a table, each behind the same word.
 fn rows<P: Print>(rt: &P, text: &[u8], t: &[u32], width: usize) -> io::Result<()>
     requires { 0 < width }
+    ensures { Unit {0} }
 {
     let mut at: usize = 0;
     while width <= t.len() - at {
@@ -80,7 +95,9 @@ fn rows<P: Print>(rt: &P, text: &[u8], t: &[u32], width: usize) -> io::Result<()
 }
 
 // Prints an entry; its form is the word.
-fn entry<P: Print>(rt: &P, form: u32, row: &[u32]) -> io::Result<()> {
+fn entry<P: Print>(rt: &P, form: u32, row: &[u32]) -> io::Result<()>
+    ensures { Unit {0} }
+{
     if form == LEAF {
         return line(rt, b"leaf", row);
     }
@@ -88,7 +105,9 @@ fn entry<P: Print>(rt: &P, form: u32, row: &[u32]) -> io::Result<()> {
 }
 
 // Prints entries.
-fn entry_rows<P: Print>(rt: &P, t: &[u32]) -> io::Result<()> {
+fn entry_rows<P: Print>(rt: &P, t: &[u32]) -> io::Result<()>
+    ensures { Unit {0} }
+{
     let mut at: usize = 0;
     while ENTRY <= t.len() - at {
         entry(rt, t[at], &t[at + 1..at + ENTRY])?;
@@ -104,7 +123,9 @@ pub fn reading<P: Print>(
     entries: &[u32],
     errors: &[u32],
     lines: &[u32],
-) -> io::Result<()> {
+) -> io::Result<()>
+    ensures { Unit {0} }
+{
     line(
         rt,
         b"answer",

@@ -15,7 +15,9 @@ fn read_file(rt: &HostRuntime, name: &str, buf: &mut [u8]) -> io::Result<usize>
 }
 
 // Shows a source under its name.
-fn show(rt: &HostRuntime, name: &str) -> io::Result<()> {
+fn show(rt: &HostRuntime, name: &str) -> io::Result<()>
+    ensures { Unit {0} }
+{
     let mut buf = records::input::buffer();
     let n = read_file(rt, name, &mut buf)?;
     listed::print::word(rt, name.as_bytes())?;

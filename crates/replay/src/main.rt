@@ -26,12 +26,16 @@ fn read_records(rt: &HostRuntime, name: &str, buf: &mut [u8]) -> io::Result<usiz
 }
 
 // Prints a line: a call, a word and a number.
-fn print_line(rt: &HostRuntime, call: &str, word: &str, n: usize) -> io::Result<()> {
+fn print_line(rt: &HostRuntime, call: &str, word: &str, n: usize) -> io::Result<()>
+    ensures { Unit {0} }
+{
     println!(rt; "{call}{word}{n}")
 }
 
 // Prints how many records there are, all the same, or the first that differs.
-fn print_comparison(rt: &HostRuntime, call: &str, c: Comparison) -> io::Result<()> {
+fn print_comparison(rt: &HostRuntime, call: &str, c: Comparison) -> io::Result<()>
+    ensures { Unit {0} }
+{
     match c {
         Comparison::Same { records } => print_line(rt, call, ",same,", records),
         Comparison::Differs { number } => print_line(rt, call, ",first difference,", number),
@@ -39,7 +43,9 @@ fn print_comparison(rt: &HostRuntime, call: &str, c: Comparison) -> io::Result<(
 }
 
 // Replays the records of a call: the file has its name.
-fn replay(rt: &HostRuntime, name: &str, call: u8) -> io::Result<()> {
+fn replay(rt: &HostRuntime, name: &str, call: u8) -> io::Result<()>
+    ensures { Unit {0} }
+{
     let mut buf = buffer();
     let n = read_records(rt, name, &mut buf)?;
     print_comparison(rt, name, records::compare(call, &buf[..n]))

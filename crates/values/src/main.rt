@@ -9,7 +9,9 @@ use records::{input, rubbish};
 use std::io;
 
 // Shows an expression: its line, and the refusal and the value.
-fn show(rt: &HostRuntime, line: &[u8], list: &[u32], text: &[u8]) -> io::Result<()> {
+fn show(rt: &HostRuntime, line: &[u8], list: &[u32], text: &[u8]) -> io::Result<()>
+    ensures { Unit {0} }
+{
     let mut expression = input::buffer();
     let n = lines::bytes(line, &mut expression);
     let got = condition::value(&expression[..n], list, text);
@@ -20,7 +22,9 @@ fn show(rt: &HostRuntime, line: &[u8], list: &[u32], text: &[u8]) -> io::Result<
 }
 
 // Shows the expressions of these lines.
-fn show_lines(rt: &HostRuntime, s: &[u8], list: &[u32], text: &[u8]) -> io::Result<()> {
+fn show_lines(rt: &HostRuntime, s: &[u8], list: &[u32], text: &[u8]) -> io::Result<()>
+    ensures { Unit {0} }
+{
     let mut at: usize = 0;
     while at < s.len() {
         let end = lines::end(s, at);
@@ -31,7 +35,9 @@ fn show_lines(rt: &HostRuntime, s: &[u8], list: &[u32], text: &[u8]) -> io::Resu
 }
 
 // Shows those behind the lines of a text and of a list.
-fn show_listed(rt: &HostRuntime, text: &[u8], list: &[u8], rest: &[u8]) -> io::Result<()> {
+fn show_listed(rt: &HostRuntime, text: &[u8], list: &[u8], rest: &[u8]) -> io::Result<()>
+    ensures { Unit {0} }
+{
     let mut named = input::buffer();
     let m = lines::bytes(text, &mut named);
     let mut numbers = rubbish::numbers();
@@ -40,7 +46,9 @@ fn show_listed(rt: &HostRuntime, text: &[u8], list: &[u8], rest: &[u8]) -> io::R
 }
 
 // Shows those of a file that begins with these two lines, which are printed as they stand.
-fn show_file(rt: &HostRuntime, s: &[u8]) -> io::Result<()> {
+fn show_file(rt: &HostRuntime, s: &[u8]) -> io::Result<()>
+    ensures { Unit {0} }
+{
     let a = lines::end(s, 0);
     if s.len() <= a {
         return Ok(());
@@ -54,7 +62,9 @@ fn show_file(rt: &HostRuntime, s: &[u8]) -> io::Result<()> {
 }
 
 // Shows a file under its name.
-fn show_named(rt: &HostRuntime, name: &str) -> io::Result<()> {
+fn show_named(rt: &HostRuntime, name: &str) -> io::Result<()>
+    ensures { Unit {0} }
+{
     let mut buf = input::large_buffer();
     let n = listed::read_file(rt, name, &mut buf)?;
     print::word(rt, name.as_bytes())?;
