@@ -1,4 +1,5 @@
 pub mod Cases
+pub mod Checking
 pub mod Newlines
 pub mod Places
 pub mod Refusals

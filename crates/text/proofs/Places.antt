@@ -11,7 +11,7 @@ use mir.Syntax.{w64}
 use borrow.Author.Tests.{leb-true}
 use lib.Dec.{leb}
 use lib.ListN.{length, get_or}
-use Rattle.text.specs.Stretch.{Stretch, nowhere, place_of, first_place}
+use Rattle.text.specs.Stretch.{Stretch, Passing, FirstFailing, nowhere, place_of, first_place}
 use Rattle.text.proofs.Cases.{cases}
 
 -- So many bytes stand at a place.
@@ -67,22 +67,13 @@ module _ (test : ℕ → Bool) (b k : ℕ) where
       go false e h = (e, rw e)
 
 module _ (test : ℕ → Bool) (s : List ℕ) (at : ℕ) where
-  -- The first k bytes of a look at so many are looked at.
-  pub record Looking (size k m : ℕ) : Type 0 where
-    pub few : k ≤ size
-    pub is : m ≡ first_place test k at s
-
-  pub look_none : (size : ℕ) → Looking size 0 nowhere
+  pub first_none : nowhere ≡ first_place test 0 at s
   unfolding first_place
-  look_none size = record { few = omega arith; is = refl }
+  first_none = refl
 
-  module _ (size k m : ℕ) (h : Looking size k m) where
-    pub look_more : (l r : ℕ) → k < size → l ≡ place_of test (get_or s (at + k) 0) k → r ≡ min m l → Looking size (k + 1) r
-    unfolding first_place
-    look_more l r n e q = record { few = omega arith; is = rw (add-one k) (q ∙ rw (h.is, e)) }
-
-    pub look_all : size ≤ k → m ≡ first_place test size at s
-    look_all n = let e : k ≡ size = omega (arith, h.few) in rw e at h.is
+  pub first_more : (k m l r : ℕ) → m ≡ first_place test k at s → l ≡ place_of test (get_or s (at + k) 0) k → r ≡ min m l → r ≡ first_place test (k + 1) at s
+  unfolding first_place
+  first_more k m l r h e q = rw (add-one k) (q ∙ rw (h, e))
 
   -- Before the first place every byte passes,
   before_first : (n j : ℕ) → j < n → j < first_place test n at s → test (get_or s (at + j) 0) ≡ true
@@ -113,20 +104,9 @@ module _ (test : ℕ → Bool) (s : List ℕ) (at : ℕ) where
         (omega arith, rw q r.0)
   ]
 
--- What the loop over a look's bytes keeps,
-abbrev pub looking : (ℕ → Bool) → ℕ → List ℕ → ℕ → ℕ → ℕ → ℕ → ℕ → Type 0
-looking test size s at m₀ k₀ m k = Looking test s at size k m
-
--- how many bytes are left to it,
-abbrev pub look_left : ℕ → List ℕ → ℕ → ℕ → ℕ → ℕ → ℕ → ℕ
-look_left size s at m₀ k₀ m k = size - k
-
--- and the laws by which `search` proves it.
-pub ruleset looks = (look_none, look_more, look_all, cases)
-
 -- A look is passed over, up to a place in it or whole.
 module _ (test : ℕ → Bool) (size : ℕ) (s : List ℕ) (at m : ℕ) (h : at + size ≤ length s) (e : m ≡ first_place test size at s) where
-  look_over : (n : ℕ) → n ≤ size → n ≤ m → Stretch (λ b. test b ≡ true) s at (at + n)
+  look_over : (n : ℕ) → n ≤ size → n ≤ m → Passing test s at (at + n)
   look_over n a b = record {
     forward = omega arith;
     within = omega arith;
@@ -136,11 +116,8 @@ module _ (test : ℕ → Bool) (size : ℕ) (s : List ℕ) (at m : ℕ) (h : at 
         rw t at (before_first test s at size (i - at) (omega arith) (rw e at l));
   }
 
-  pub look_part : m < size → Stretch (λ b. test b ≡ true) s at (at + m)
-  look_part l = look_over m (omega arith) (omega arith)
-
-  pub look_whole : size ≤ m → Stretch (λ b. test b ≡ true) s at (at + size)
+  pub look_whole : size ≤ m → Passing test s at (at + size)
   look_whole l = look_over size (omega arith) l
 
-  pub look_stops : size ≤ nowhere → m < size → test (get_or s (at + m) 0) ≡ false
-  look_stops f l = (at_first test s at size m f e (omega arith)).1
+  pub look_part : size ≤ nowhere → m < size → FirstFailing test size s at m
+  look_part f l = record { below = l; before = look_over m (omega arith) (omega arith); fails = (at_first test s at size m f e (omega arith)).1 }

@@ -1,5 +1,5 @@
 -- The order of refusals, and the refusals that the calls on a source share.
-use Rattle.std.specs.Prelude.{if◌then◌else◌}
+use Rattle.std.specs.Prelude.{if◌then◌else◌, ⊤, Result, Ok, Err}
 use Prim.Native.Nat.{ℕ, ◌≤◌, ◌<◌}
 use mathlib.Core.Path.{◌≡◌, refl, sym, ap, ◌∙◌}
 use mathlib.Core.Bool.{Bool, true, false, not, and-eq-true_iff}
@@ -9,11 +9,14 @@ use lib.ListN.{length}
 use borrow.Author.Tests.{lt-ltb, le-ltb, eq-eqb, ne_eqb, ltb-false, eqb-false, not-true}
 use Rattle.definition.specs.Utf8.{left, utf8, ends_inside, nothing, cut, broken}
 use Rattle.definition.specs.Utf8 as definition
-use Rattle.definition.specs.Calls.{Check, Refusal, refusal, longest_source, too_long, not_utf8, cut_off, utf8_checks, source_checks}
+use Rattle.definition.specs.Calls.{Check, refusal, longest_source, too_long, not_utf8, cut_off, utf8_checks, source_checks}
+use Rattle.definition.specs.Calls as calls
 use Rattle.theorems.proofs.Refusals.{lacks, numbered}
-use Rattle.text.specs.Utf8.{told}
-use Rattle.text.specs.declared.utf8.Left.{Left}
-use Rattle.text.specs.declared.utf8.Left.TheVariants.{Nothing, Cut, Broken}
+use Rattle.text.specs.Refusal.{number}
+use Rattle.text.specs.Utf8.{told, Refuses}
+use Rattle.text.specs.declared.refusal.Refusal.{Refusal}
+use Rattle.text.specs.declared.utf8.Utf8Error.{Utf8Error}
+use Rattle.text.specs.declared.utf8.Utf8Error.TheVariants.{Cut, Broken}
 
 -- The refusals of a call in two parts: the first part decides unless it passes.
 pub refusal_split : (front rest : List Check) → numbered front ≡ true
@@ -46,8 +49,8 @@ source_then src cs = source_checks src ++ cs
 -- By what is left of it.
 abbrev refused_by : definition.Left → ℕ
 refused_by nothing = 0
-refused_by cut = Refusal.CUT
-refused_by broken = Refusal.UTF8
+refused_by cut = calls.Refusal.CUT
+refused_by broken = calls.Refusal.UTF8
 
 module _ (src : List ℕ) where
   pub long_source : longest_source < length src → (too_long src).number ≡ refusal (source_checks src)
@@ -62,15 +65,13 @@ module _ (src : List ℕ) where
   left_refusal broken h d = rw (le-ltb longest_source (length src) h, d, utf8, ends_inside)
 
   -- and the UTF-8 check tells it.
-  module _ (l : Left) (h : length src ≤ longest_source) (e : told l ≡ left [] src) where
-    pub whole_source : l ≡ Nothing → 0 ≡ refusal (source_checks src)
-    whole_source q = left_refusal nothing h (sym e ∙ ap told q)
+  module _ (l : Result ⊤ Utf8Error) (h : length src ≤ longest_source) (e : told l ≡ left [] src) where
+    pub whole_source : (x : ⊤) → l ≡ Ok x → 0 ≡ refusal (source_checks src)
+    whole_source x q = left_refusal nothing h (sym e ∙ ap told q)
 
-    pub cut_source : l ≡ Cut → (cut_off src).number ≡ refusal (source_checks src)
-    cut_source q = left_refusal cut h (sym e ∙ ap told q)
-
-    pub broken_source : l ≡ Broken → (not_utf8 src).number ≡ refusal (source_checks src)
-    broken_source q = left_refusal broken h (sym e ∙ ap told q)
+    pub refused_source : (u : Utf8Error) (r : Refusal) → l ≡ Err u → Refuses u r → number r ≡ refusal (source_checks src)
+    refused_source Cut r q k = ap number k ∙ left_refusal cut h (sym e ∙ ap told q)
+    refused_source Broken r q k = ap number k ∙ left_refusal broken h (sym e ∙ ap told q)
 
 -- What a source is refused for comes first, and if it is not refused, the other refusals of the call decide.
 module _ (src : List ℕ) (r : ℕ) (e : r ≡ refusal (source_checks src)) where

@@ -5,12 +5,13 @@ use native.Mathlib.Nat.{add-zero}
 use native.Mathlib.Numerals.{add-one}
 use native.Mathlib.Omega.{arith}
 use mathlib.Core.Path.{◌≡◌, refl, sym, ap, ◌∙◌}
-use mathlib.Core.Bool.{Bool, true, false, and-eq-true_iff}
+use mathlib.Core.Bool.{Bool, true, false, and-eq-true_iff, ◌&&◌}
 use mathlib.Core.List.{List}
 use borrow.Author.Tests.{leb-true, le-leb, lt-leb}
 use lib.Dec.{leb}
-use lib.ListN.{length, get_or}
-use Rattle.text.specs.Stretch.{Stretch, Look, gathered, step_passes, Passing}
+use lib.ListN.{length, get_or, take, drop, length-drop}
+use Rattle.std.proofs.lemmas.List.{get_or-take, get_or-drop, length-take}
+use Rattle.text.specs.Stretch.{Stretch, Passing, Passed, Tests, each_passes}
 
 module _ {P : ℕ → Type 0} (s : List ℕ) (at : ℕ) where
   pub stretch_none : at ≤ length s → Stretch P s at at
@@ -40,58 +41,59 @@ module _ {P : ℕ → Type 0} (s : List ℕ) (at : ℕ) where
           let e : at + n + 1 ≡ at + suc n = omega arith in
           go n (omega arith) ∙ on (at + n) (omega (arith, k.within)) (k.each (at + n) (omega arith) (omega arith)) ∙ ap f e
 
--- The first k bytes of a step are gathered.
-module _ (l : Look) (s : List ℕ) (at : ℕ) where
-  pub record Gathering (k m : ℕ) : Type 0 where
-    pub few : k ≤ l.size
-    pub is : m ≡ gathered l k at s
+-- The first n bytes of a step pass a test, each.
+module _ (test : ℕ → Bool) (s : List ℕ) (at : ℕ) where
+  pub each_none : true ≡ each_passes test 0 at s
+  unfolding each_passes
+  each_none = refl
 
-  pub gather_none : Gathering 0 l.none
-  unfolding gathered
-  gather_none = record { few = omega arith; is = refl }
+  pub each_more : (n b : ℕ) (all r : Bool) → all ≡ each_passes test n at s → b ≡ get_or s (at + n) 0 → r ≡ test b → all && r ≡ each_passes test (n + 1) at s
+  unfolding each_passes
+  each_more n b all r h e q = rw (add-one n, h, q, e)
 
-  pub gather_more : (k m r : ℕ) → Gathering k m → k < l.size → r ≡ l.both m (get_or s (at + k) 0) → Gathering (k + 1) r
-  unfolding gathered
-  gather_more k m r h n e = record { few = omega arith; is = rw (add-one k) (e ∙ rw h.is) }
-
-  pub gather_all : (k m : ℕ) → Gathering k m → l.size ≤ k → m ≡ gathered l l.size at s
-  gather_all k m h n = let e : k ≡ l.size = omega (arith, h.few) in rw e at h.is
-
-  pub step_short : length s - at < l.size → false ≡ step_passes l s at
-  unfolding step_passes
-  step_short h = rw (lt-leb (at + l.size) (length s) (omega arith))
-
-  pub step_tested : (m : ℕ) → at ≤ length s → l.size ≤ length s - at → m ≡ gathered l l.size at s → l.test m ≡ step_passes l s at
-  unfolding step_passes
-  step_tested m g h e = rw (le-leb (at + l.size) (length s) (omega arith), e)
-
--- Some bytes are looked at, and those that pass together pass each.
-pub record Fair (l : Look) : Type 0 where
-  pub some : 0 < l.size
-  pub apart : (m b : ℕ) → l.test (l.both m b) ≡ true → (l.test m ≡ true) × (l.test b ≡ true)
-
-module _ (l : Look) (fair : Fair l) (s : List ℕ) (at : ℕ) where
-  each_passes : (n : ℕ) → l.test (gathered l n at s) ≡ true → (i : ℕ) → at ≤ i → i < at + n → l.test (get_or s i 0) ≡ true
-  unfolding gathered
-  each_passes zero h i a b = absurd (omega arith)
-  each_passes (suc n) h i a b = let p = fair.apart _ _ h in elim (dec_lt i (at + n)) [
-    | yes k ↦ each_passes n p.0 i a k
+  each_of : (n : ℕ) → each_passes test n at s ≡ true → (i : ℕ) → at ≤ i → i < at + n → test (get_or s i 0) ≡ true
+  unfolding each_passes
+  each_of zero h i a b = absurd (omega arith)
+  each_of (suc n) h i a b =
+      let p = (and-eq-true_iff (each_passes test n at s) (test (get_or s (at + n) 0))).0 h in
+      elim (dec_lt i (at + n)) [
+    | yes k ↦ each_of n p.0 i a k
     | no k ↦ let e : i ≡ at + n = omega arith in rw e p.1
   ]
 
   -- A step that passes is passed over.
-  module _ (r : Bool) (e : r ≡ step_passes l s at) (q : r ≡ true) where
-    step_stretch : Passing l s at (at + l.size)
-    unfolding step_passes
-    step_stretch =
-        let h = (and-eq-true_iff (leb (at + l.size) (length s)) (l.test (gathered l l.size at s))).0 (sym e ∙ q) in
-        record { forward = omega arith; within = leb-true _ _ h.0; each = each_passes l.size h.1 }
+  pub each_stretch : (n : ℕ) → at + n ≤ length s → each_passes test n at s ≡ true → Passing test s at (at + n)
+  each_stretch n h e = record { forward = omega arith; within = h; each = each_of n e }
 
-    pub step_within : at + l.size ≤ length s
-    step_within = step_stretch.within
+module _ (test : ℕ → Bool) (s : List ℕ) (at : ℕ) where
+  pub passed_none : Passed test s at at
+  passed_none = record { inside = λ h. stretch_none s at h; behind = λ h. refl }
 
-    pub step_nearer : length s - (at + l.size) < length s - at
-    step_nearer = omega (arith, step_within, fair.some)
+  pub passed_more : (mid to : ℕ) → Passed test s at mid → mid ≤ length s → Passing test s mid to → Passed test s at to
+  passed_more mid to k h l = record {
+    inside = λ a. stretch_join s at mid to (k.inside a) l;
+    behind = λ b. absurd (let e : mid ≡ at = k.behind b in omega arith);
+  }
 
-    pub step_on : (from : ℕ) → Passing l s from at → Passing l s from (at + l.size)
-    step_on from k = stretch_join s from at (at + l.size) k step_stretch
+-- The byte at a place of a part of the source.
+pub part_read : (s : List ℕ) (at to k : ℕ) → k < length (take (to - at) (drop at s)) → get_or (take (to - at) (drop at s)) k 0 ≡ get_or s (at + k) 0
+part_read s at to k h =
+    get_or-take (to - at) (drop at s) k 0 (omega (arith, length-take (to - at) (drop at s))) ∙ get_or-drop at s k 0
+
+-- One byte more of a part is looked at, by a closure that answers as the test does.
+module _ (test : ℕ → Bool) (post : ℕ → Bool → Type 0) (t : Tests post test) (s : List ℕ) (at to k : ℕ) (r : Bool) (h : k < length (take (to - at) (drop at s)))
+    (f : get_or (take (to - at) (drop at s)) k 0 < 256) (p : post (get_or (take (to - at) (drop at s)) k 0) r) where
+  pub tested : r ≡ test (get_or s (at + k) 0)
+  tested = t _ r f p ∙ ap test (part_read s at to k h)
+
+  pub each_further : (all : Bool) → all ≡ each_passes test k at s → all && r ≡ each_passes test (k + 1) at s
+  each_further all e = each_more test s at k _ all r e refl tested
+
+  pub passing_further : Passing test s at (at + k) → to ≡ length s → at ≤ to → r ≡ true → Passing test s at (at + (k + 1))
+  passing_further q e l u =
+      let n : at + k < length s = omega (arith, length-take (to - at) (drop at s), length-drop at s) in
+      let v : at + k + 1 ≡ at + (k + 1) = omega arith in
+      rw v at (stretch_more s at (at + k) q n (sym tested ∙ u))
+
+pub part_whole : (s : List ℕ) (at n k : ℕ) → at + n ≤ length s → k ≤ length (take (at + n - at) (drop at s)) → length (take (at + n - at) (drop at s)) ≤ k → k ≡ n
+part_whole s at n k h a b = omega (arith, length-take (at + n - at) (drop at s), length-drop at s)

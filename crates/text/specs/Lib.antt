@@ -1,3 +1,4 @@
 pub mod Newline
+pub mod Refusal
 pub mod Stretch
 pub mod Utf8

@@ -1,5 +1,5 @@
 -- Stretches of a source, and looks at several bytes of it together.
-use Rattle.std.specs.Prelude.{ℕ, zero, suc, ◌+◌, ◌≤◌, ◌<◌, min, ◌≡◌, Bool, true, ◌&&◌, List, leb, length, get_or, if◌then◌else◌}
+use Rattle.std.specs.Prelude.{ℕ, zero, suc, ◌+◌, ◌≤◌, ◌<◌, min, ◌≡◌, Bool, true, false, ◌&&◌, List, leb, length, get_or, if◌then◌else◌}
 
 -- From one place up to another P holds of every byte.
 pub record Stretch (P : ℕ → Type 0) (s : List ℕ) (at to : ℕ) : Type 0 where
@@ -7,25 +7,23 @@ pub record Stretch (P : ℕ → Type 0) (s : List ℕ) (at to : ℕ) : Type 0 wh
   pub within : to ≤ length s
   pub each : (i : ℕ) → at ≤ i → i < to → P (get_or s i 0)
 
--- A look at several bytes together: how many they are, the number that stands for none of them, how one byte more changes it, and a test of it.
-pub record Look : Type 0 where
-  pub size : ℕ
-  pub none : ℕ
-  pub both : ℕ → ℕ → ℕ
-  pub test : ℕ → Bool
+-- Every byte of a stretch passes a test.
+abbrev pub Passing : (ℕ → Bool) → List ℕ → ℕ → ℕ → Type 0
+Passing test = Stretch (λ b. test b ≡ true)
 
--- The number that stands for the first n bytes at a place.
-unfoldable pub gathered : Look → ℕ → ℕ → List ℕ → ℕ
-gathered l zero at s = l.none
-gathered l (suc n) at s = l.both (gathered l n at s) (get_or s (at + n) 0)
+-- The same from any place on: behind the source nothing is passed over.
+pub record Passed (test : ℕ → Bool) (s : List ℕ) (at to : ℕ) : Type 0 where
+  pub inside : at ≤ length s → Passing test s at to
+  pub behind : length s < at → to ≡ at
 
--- So many bytes stand at a place, and together they pass the test.
-unfoldable pub step_passes : Look → List ℕ → ℕ → Bool
-step_passes l s at = leb (at + l.size) (length s) && l.test (gathered l l.size at s)
+-- What a closure answers of each byte is this test.
+abbrev pub Tests : (ℕ → Bool → Type 0) → (ℕ → Bool) → Type 0
+Tests post test = (b : ℕ) (r : Bool) → b < 256 → post b r → r ≡ test b
 
--- Every byte of a stretch passes the test.
-abbrev pub Passing : Look → List ℕ → ℕ → ℕ → Type 0
-Passing l = Stretch (λ b. l.test b ≡ true)
+-- Whether each of the first n bytes at a place passes a test.
+unfoldable pub each_passes : (ℕ → Bool) → ℕ → ℕ → List ℕ → Bool
+each_passes test zero at s = true
+each_passes test (suc n) at s = each_passes test n at s && test (get_or s (at + n) 0)
 
 -- This stands for no place of a look.
 abbrev pub nowhere : ℕ
@@ -39,3 +37,9 @@ place_of test b k = if test b then nowhere else k
 unfoldable pub first_place : (ℕ → Bool) → ℕ → ℕ → List ℕ → ℕ
 first_place test zero at s = nowhere
 first_place test (suc n) at s = min (first_place test n at s) (place_of test (get_or s (at + n) 0) n)
+
+-- The byte at a place k of n is the first that does not pass a test.
+pub record FirstFailing (test : ℕ → Bool) (n : ℕ) (s : List ℕ) (at k : ℕ) : Type 0 where
+  pub below : k < n
+  pub before : Passing test s at (at + k)
+  pub fails : test (get_or s (at + k) 0) ≡ false

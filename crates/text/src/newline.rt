@@ -7,32 +7,21 @@ ghost use Rattle.text.specs.Newline.{newline_pair, newline_len as Newline·newli
 pub fn byte_at(src: &[u8], at: usize) -> u8
     ensures { result ≡ get_or src.now at 0 }
 {
-    if at < src.len() {
-        return src[at];
-    }
-    0
+    src.get(at).copied().unwrap_or(0)
 }
 
 // How many bytes the newline has that begins with a, where b follows; 0: a begins none.
 fn newline_len(a: u8, b: u8) -> usize
     ensures { result ≡ newline_pair a b }
 {
-    if a == b'\n' {
-        if b == b'\r' {
-            return 2;
-        }
-        return 1;
+    match (a, b) {
+        (b'\n', b'\r') | (b'\r', b'\n') => 2,
+        (b'\n' | b'\r', _) => 1,
+        _ => 0,
     }
-    if a == b'\r' {
-        if b == b'\n' {
-            return 2;
-        }
-        return 1;
-    }
-    0
 }
 
-// How many bytes the newline at a place has; 0: none stands there.
+// How many bytes the newline at a place has; 0: none stands there. The number is what a reader passes over, so 0 needs no case of its own.
 pub fn newline_at(src: &[u8], at: usize) -> usize
     ensures { result ≡ Newline·newline_len (chars (drop at src.now)) }
 {

@@ -1,40 +1,34 @@
-// The refusal numbers (01, Req 01, Req 03), by the names of the definition: its `Refusal` up to 10, and `ValueRefusal`.
-#[derive(Clone, Copy)]
-pub struct Refusal {
-    pub number: u32,
+// The refusals (01, Req 01, Req 03), by their numbers in the definition: its `Refusal` up to 10, and `ValueRefusal`.
+ghost use Rattle.std.specs.Prelude.{◌≡◌};
+ghost use Rattle.text.specs.Refusal.{number};
+
+#[derive(Clone, Copy, PartialEq, Eq, Debug)]
+pub enum Refusal {
+    Length = 1,
+    Utf8 = 2,
+    Concats = 3,
+    // The entry or the token table.
+    Entries = 4,
+    Errors = 5,
+    Lines = 6,
+    Lookup = 7,
+    Output = 8,
+    Kind = 9,
+    // Checked with Utf8.
+    Cut = 10,
+    // No expression of the grammar within the levels that may be open.
+    Expression = 11,
+    // A needed name without a value.
+    Name = 12,
+    // A zero divisor, a shift outside 0 to 31, or a value outside 32 bits.
+    Range = 13,
 }
 
-impl Refusal {
-    pub const NONE: u32 = 0;
+// The number that a call answers.
+impl From<Refusal> for u32 {
+    ghost from_gives = { λ r n. n ≡ number r };
 
-    pub const LENGTH: u32 = 1;
-
-    pub const UTF8: u32 = 2;
-
-    pub const CONCATS: u32 = 3;
-
-    // The entry or the token table.
-    pub const ENTRIES: u32 = 4;
-
-    pub const ERRORS: u32 = 5;
-
-    pub const LINES: u32 = 6;
-
-    pub const LOOKUP: u32 = 7;
-
-    pub const OUTPUT: u32 = 8;
-
-    pub const KIND: u32 = 9;
-
-    // Checked with UTF8.
-    pub const CUT: u32 = 10;
-
-    // No expression of the grammar within the levels that may be open.
-    pub const EXPRESSION: u32 = 11;
-
-    // A needed name without a value.
-    pub const NAME: u32 = 12;
-
-    // A zero divisor, a shift outside 0 to 31, or a value outside 32 bits.
-    pub const RANGE: u32 = 13;
+    fn from(r: Refusal) -> u32 {
+        r as u32
+    }
 }

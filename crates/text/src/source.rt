@@ -1,22 +1,33 @@
 // The refusals that every call on a source shares: it is too long, not UTF-8, or ends inside a character.
 ghost use Rattle.std.specs.Prelude.{◌≡◌};
 ghost use Rattle.definition.specs.Calls.{refusal, source_checks};
+ghost use Rattle.text.specs.Refusal.{code};
 
 use crate::refusal::Refusal;
-use crate::utf8::Left;
+use crate::utf8::{self, Utf8Error};
 
 const LONGEST: usize = 16_777_216;
 
-// The number of the first refusal of a source; 0: none.
-pub fn refused(src: &[u8]) -> u32
-    ensures { result ≡ refusal (source_checks src.now) }
+impl From<Utf8Error> for Refusal {
+    ghost use Rattle.text.specs.Utf8.{Refuses};
+
+    ghost from_gives = { Refuses };
+
+    fn from(e: Utf8Error) -> Refusal {
+        match e {
+            Utf8Error::Cut => Refusal::Cut,
+            Utf8Error::Broken => Refusal::Utf8,
+        }
+    }
+}
+
+// The first refusal of a source.
+pub fn check(src: &[u8]) -> Result<(), Refusal>
+    ensures { code result ≡ refusal (source_checks src.now) }
 {
     if LONGEST < src.len() {
-        return Refusal::LENGTH;
+        return Err(Refusal::Length);
     }
-    match crate::utf8::check(src) {
-        Left::Nothing => Refusal::NONE,
-        Left::Cut => Refusal::CUT,
-        Left::Broken => Refusal::UTF8,
-    }
+    utf8::check(src)?;
+    Ok(())
 }

@@ -1,25 +1,23 @@
 // The UTF-8 check (RFC 3629, section 4): one pass, one state.
-ghost use Rattle.std.specs.Prelude.{◌≡◌, [], ◌+◌, ◌≤◌, length, if◌then◌else◌};
+ghost use Rattle.std.specs.Prelude.{◌≡◌, [], ◌≤◌, length, if◌then◌else◌};
 ghost use Rattle.definition.specs.Text.{none, some};
 ghost use Rattle.definition.specs.Utf8.{◌⋯◌, within, char_forms, follow, left};
-ghost use Rattle.text.specs.Stretch.{gathered, step_passes, Passing};
-ghost use Rattle.text.specs.Utf8.{wants, next_wants, wanted_after, told, starts, ascii_look, Passes};
+ghost use Rattle.text.specs.Stretch.{Passing};
+ghost use Rattle.text.specs.Utf8.{wants, next_wants, wanted_after, told, is_ascii, Passes};
 
 use crate::stretch;
 
-// What is left of a source when whole characters are taken off its front.
-#[derive(Clone, Copy)]
-pub enum Left {
-    // Nothing: it is UTF-8.
-    Nothing,
-    // The beginning of a character.
+// Why a source is not UTF-8, when whole characters are taken off its front.
+#[derive(Clone, Copy, PartialEq, Eq, Debug)]
+pub enum Utf8Error {
+    // The beginning of a character is left.
     Cut,
-    // Neither.
+    // Neither that nor nothing.
     Broken,
 }
 
 // What is wanted next: any character, one to three tail bytes, or a second byte of a narrower range and then one or two tail bytes.
-#[derive(Clone, Copy)]
+#[derive(Clone, Copy, PartialEq, Eq, Debug)]
 enum State {
     Start,
     Tail1,
@@ -31,46 +29,33 @@ enum State {
     AfterF4,
 }
 
-// Where a byte leads.
-#[derive(Clone, Copy)]
-enum Next {
-    To(State),
-    Unwanted,
-}
-
 // The first byte of a character.
-fn first(b: u8) -> Next
+fn first(b: u8) -> Option<State>
     ensures { next_wants result ≡ follow char_forms b }
 {
     match b {
-        0x00..=0x7F => Next::To(State::Start),
-        0xC2..=0xDF => Next::To(State::Tail1),
-        0xE0 => Next::To(State::AfterE0),
-        0xE1..=0xEC => Next::To(State::Tail2),
-        0xED => Next::To(State::AfterED),
-        0xEE..=0xEF => Next::To(State::Tail2),
-        0xF0 => Next::To(State::AfterF0),
-        0xF1..=0xF3 => Next::To(State::Tail3),
-        0xF4 => Next::To(State::AfterF4),
-        _ => Next::Unwanted,
+        0x00..=0x7F => Some(State::Start),
+        0xC2..=0xDF => Some(State::Tail1),
+        0xE0 => Some(State::AfterE0),
+        0xE1..=0xEC => Some(State::Tail2),
+        0xED => Some(State::AfterED),
+        0xEE..=0xEF => Some(State::Tail2),
+        0xF0 => Some(State::AfterF0),
+        0xF1..=0xF3 => Some(State::Tail3),
+        0xF4 => Some(State::AfterF4),
+        _ => None,
     }
 }
 
 // A later byte, from low to high, behind which s is the state.
-fn later(low: u8, high: u8, b: u8, s: State) -> Next
+fn later(low: u8, high: u8, b: u8, s: State) -> Option<State>
     ensures { next_wants result ≡ (if within (low ⋯ high) b then some (wants s) else none) }
 {
-    if low <= b {
-        if b <= high {
-            return Next::To(s);
-        }
-        return Next::Unwanted;
-    }
-    Next::Unwanted
+    if low <= b && b <= high { Some(s) } else { None }
 }
 
 // One byte more in a state.
-fn step(s: State, b: u8) -> Next
+fn step(s: State, b: u8) -> Option<State>
     ensures { next_wants result ≡ wanted_after (wants s) b }
 {
     match s {
@@ -86,18 +71,12 @@ fn step(s: State, b: u8) -> Next
 }
 
 // What is left if no byte follows.
-fn end(s: State) -> Left
+fn end(s: State) -> Result<(), Utf8Error>
     ensures { told result ≡ left (wants s) [] }
 {
     match s {
-        State::Start => Left::Nothing,
-        State::Tail1 => Left::Cut,
-        State::Tail2 => Left::Cut,
-        State::Tail3 => Left::Cut,
-        State::AfterE0 => Left::Cut,
-        State::AfterED => Left::Cut,
-        State::AfterF0 => Left::Cut,
-        State::AfterF4 => Left::Cut,
+        State::Start => Ok(()),
+        _ => Err(Utf8Error::Cut),
     }
 }
 
@@ -107,72 +86,14 @@ const ABOVE_ASCII: u8 = 128;
 // How many bytes are looked at together.
 const STEP: usize = 64;
 
-// The largest of the STEP bytes at a place.
-fn largest(src: &[u8], at: usize) -> u8
-    requires { at + ascii_look.size ≤ length src.now }
-    ensures { result ≡ gathered ascii_look ascii_look.size at src.now }
-{
-    let mut m: u8 = 0;
-    let mut k: usize = 0;
-    while k < STEP {
-        m = stretch::larger(m, src[at + k]);
-        k += 1;
-    }
-    m
-}
-
-// Whether STEP bytes of ASCII stand at a place.
-fn all_ascii(src: &[u8], at: usize) -> bool
-    requires { at ≤ length src.now }
-    ensures { result ≡ step_passes ascii_look src.now at }
-{
-    if src.len() - at < STEP {
-        return false;
-    }
-    largest(src, at) < ABOVE_ASCII
-}
-
-// Behind the ASCII at a place, as far as it goes in whole steps.
-fn pass_steps(src: &[u8], at: usize) -> usize
-    requires { at ≤ length src.now }
-    ensures { Passing ascii_look src.now at result }
-{
-    let mut i = at;
-    while all_ascii(src, i) {
-        i += STEP;
-    }
-    i
-}
-
 // Behind the ASCII at a place.
 fn next_high(src: &[u8], at: usize) -> usize
     requires { at ≤ length src.now }
-    ensures { Passing ascii_look src.now at result }
+    ensures { Passing is_ascii src.now at result }
 {
-    let mut i = pass_steps(src, at);
-    while i < src.len() {
-        if ABOVE_ASCII <= src[i] {
-            return i;
-        }
-        i += 1;
-    }
-    i
-}
-
-// Whether any character may follow.
-fn is_start(s: State) -> bool
-    ensures { result ≡ starts s }
-{
-    match s {
-        State::Start => true,
-        State::Tail1 => false,
-        State::Tail2 => false,
-        State::Tail3 => false,
-        State::AfterE0 => false,
-        State::AfterED => false,
-        State::AfterF0 => false,
-        State::AfterF4 => false,
-    }
+    let ascii = |b: u8| b < ABOVE_ASCII;
+    let steps = stretch::pass_steps::<STEP, _>(src, at, &ascii);
+    stretch::pass_each(src, steps, &ascii)
 }
 
 // Behind the ASCII at a place where any character may follow; elsewhere the place itself.
@@ -180,29 +101,24 @@ fn passed(s: State, src: &[u8], at: usize) -> usize
     requires { at ≤ length src.now }
     ensures { Passes s src.now at result }
 {
-    if is_start(s) {
-        return next_high(src, at);
+    match s {
+        State::Start => next_high(src, at),
+        _ => at,
     }
-    at
 }
 
-// Whether the bytes are UTF-8, and if not, why.
-pub fn check(src: &[u8]) -> Left
+// Whether the bytes are UTF-8, and if not, why. The place goes on by more than one where ASCII is passed over.
+pub fn check(src: &[u8]) -> Result<(), Utf8Error>
     ensures { told result ≡ left [] src.now }
 {
     let mut s = State::Start;
     let mut i = 0;
     while i < src.len() {
-        let b = src[i];
-        match step(s, b) {
-            Next::To(t) => {
-                s = t;
-                i = passed(t, src, i + 1);
-            }
-            Next::Unwanted => {
-                return Left::Broken;
-            }
-        }
+        let Some(t) = step(s, src[i]) else {
+            return Err(Utf8Error::Broken);
+        };
+        s = t;
+        i = passed(t, src, i + 1);
     }
     end(s)
 }
