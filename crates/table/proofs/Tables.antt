@@ -1,44 +1,16 @@
 -- Laws of every lent table: how it is cleared, and how a row of numbers is written into it from the front, as far as it goes.
-use Prim.Native.Nat.{ℕ, zero, suc, ◌+◌, ◌-◌, ◌≤◌, ◌<◌}
+use Prim.Native.Nat.{ℕ, zero, suc, ◌+◌, ◌-◌, ◌≤◌}
 use native.Mathlib.Numerals.{add-one}
 use native.Mathlib.Nat.{sub-zero, zero-sub, suc-sub-suc}
 use native.Mathlib.Omega.{arith}
-use mathlib.Core.Path.{◌≡◌, refl, sym, ap, ◌∙◌}
-use mathlib.Core.List.{List, [], ◌∷◌, ◌++◌, append-nil}
-use borrow.Author.Fill.{fill_more}
-use lib.ListN.{length, drop, set, replicate, length-set, length-replicate, drop_of_length-le}
+use mathlib.Core.Path.{◌≡◌, sym, ap, ◌∙◌}
+use mathlib.Core.List.{List, [], ◌∷◌}
+use lib.ListN.{length, drop, set, replicate, length-replicate}
 use lib.Seq.{sets, sets-eq, length-sets}
 use Rattle.definition.specs.Calls.{padded}
 
 abbrev pub zeros : ℕ → List ℕ
 zeros n = replicate n 0
-
--- The table t₀ is cleared up to i.
-pub record Clearing (t₀ t : List ℕ) (i : ℕ) : Type 0 where
-  pub within : i ≤ length t₀
-  pub long : length t ≡ length t₀
-  pub cleared : t ≡ replicate i 0 ++ drop i t₀
-
-pub clear_none : (t : List ℕ) → Clearing t t 0
-clear_none t = record { within = omega arith; long = refl; cleared = refl }
-
-module _ (t₀ t : List ℕ) (i : ℕ) (k : Clearing t₀ t i) where
-  pub clear_more : i < length t → Clearing t₀ (set t i 0) (i + 1)
-  clear_more h =
-      let l : length t ≡ length t₀ = k.long in
-      let b : i < length t₀ = omega arith in
-      record {
-        within = omega arith;
-        long = length-set t i 0 ∙ l;
-        cleared = rw k.cleared (fill_more i 0 t₀ b);
-      }
-
-  pub clear_all : length t ≤ i → t ≡ replicate (length t₀) 0
-  clear_all h =
-      let l : length t ≡ length t₀ = k.long in
-      let e : i ≡ length t₀ = omega (arith, k.within) in
-      let b : length t₀ ≤ i = omega arith in
-      k.cleared ∙ rw (drop_of_length-le t₀ b, append-nil, e)
 
 -- The rest is still to be written into t from n on, which makes so many numbers in all, and this table.
 pub record Writing (total : ℕ) (final rest : List ℕ) (n : ℕ) (t : List ℕ) : Type 0 where

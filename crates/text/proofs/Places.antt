@@ -11,8 +11,7 @@ use mir.Syntax.{w64}
 use borrow.Author.Tests.{leb-true}
 use lib.Dec.{leb}
 use lib.ListN.{length, get_or}
-use Rattle.text.specs.Stretch.{Stretch, Passing, FirstFailing, nowhere, place_of, first_place}
-use Rattle.text.proofs.Cases.{cases}
+use Rattle.text.specs.Stretch.{Passing, FirstFailing, nowhere, place_of, first_place}
 
 -- So many bytes stand at a place.
 pub stood : (r : Bool) (a b : ℕ) → r ≡ leb a b → r ≡ true → a ≤ b

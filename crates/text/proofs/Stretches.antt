@@ -5,10 +5,8 @@ use native.Mathlib.Nat.{add-zero}
 use native.Mathlib.Numerals.{add-one}
 use native.Mathlib.Omega.{arith}
 use mathlib.Core.Path.{◌≡◌, refl, sym, ap, ◌∙◌}
-use mathlib.Core.Bool.{Bool, true, false, and-eq-true_iff, ◌&&◌}
+use mathlib.Core.Bool.{Bool, true, and-eq-true_iff, ◌&&◌}
 use mathlib.Core.List.{List}
-use borrow.Author.Tests.{leb-true, le-leb, lt-leb}
-use lib.Dec.{leb}
 use lib.ListN.{length, get_or, take, drop, length-drop}
 use Rattle.std.proofs.lemmas.List.{get_or-take, get_or-drop, length-take}
 use Rattle.text.specs.Stretch.{Stretch, Passing, Passed, Tests, each_passes}
@@ -57,9 +55,9 @@ module _ (test : ℕ → Bool) (s : List ℕ) (at : ℕ) where
   each_of (suc n) h i a b =
       let p = (and-eq-true_iff (each_passes test n at s) (test (get_or s (at + n) 0))).0 h in
       elim (dec_lt i (at + n)) [
-    | yes k ↦ each_of n p.0 i a k
-    | no k ↦ let e : i ≡ at + n = omega arith in rw e p.1
-  ]
+        | yes k ↦ each_of n p.0 i a k
+        | no k ↦ let e : i ≡ at + n = omega arith in rw e p.1
+      ]
 
   -- A step that passes is passed over.
   pub each_stretch : (n : ℕ) → at + n ≤ length s → each_passes test n at s ≡ true → Passing test s at (at + n)

@@ -1,3 +1,4 @@
+pub mod Answers
 pub mod Newline
 pub mod Refusal
 pub mod Stretch

@@ -1,5 +1,5 @@
 -- Stretches of a source, and looks at several bytes of it together.
-use Rattle.std.specs.Prelude.{ℕ, zero, suc, ◌+◌, ◌≤◌, ◌<◌, min, ◌≡◌, Bool, true, false, ◌&&◌, List, leb, length, get_or, if◌then◌else◌}
+use Rattle.std.specs.Prelude.{ℕ, zero, suc, ◌+◌, ◌≤◌, ◌<◌, min, ◌≡◌, Bool, true, false, ◌&&◌, List, length, get_or, if◌then◌else◌}
 
 -- From one place up to another P holds of every byte.
 pub record Stretch (P : ℕ → Type 0) (s : List ℕ) (at to : ℕ) : Type 0 where

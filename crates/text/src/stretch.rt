@@ -53,7 +53,11 @@ pub fn pass_each<F: Fn(u8) -> bool>(src: &[u8], at: usize, passes: &F) -> usize
 }
 
 // Where the first of the N bytes at a place stands that does not pass a test, counted from there.
-pub fn first_failing<const N: usize, F: Fn(u8) -> bool>(src: &[u8], at: usize, passes: &F) -> Option<usize>
+pub fn first_failing<const N: usize, F: Fn(u8) -> bool>(
+    src: &[u8],
+    at: usize,
+    passes: &F,
+) -> Option<usize>
     requires callable { F.IsAlwaysCallable passes.now }
     requires within { at + N ≤ length src.now }
     requires few { N ≤ nowhere }

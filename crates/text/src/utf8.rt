@@ -71,6 +71,7 @@ fn step(s: State, b: u8) -> Option<State>
 }
 
 // What is left if no byte follows.
+#[tactic(auto, unfolding(definition::specs::Utf8::left))]
 fn end(s: State) -> Result<(), Utf8Error>
     ensures { told result ≡ left (wants s) [] }
 {

@@ -1,5 +1,4 @@
 -- `newline_at` finds the newline that the characters begin with.
-use mathlib.Core.Path.{sym, ◌∙◌}
 use Rattle.text.proofs.Cases.{cases}
 use Rattle.text.proofs.Newlines.{newline_none, newline_here}
 use Rattle.text.proofs.newline.newline_at.Goals as goal

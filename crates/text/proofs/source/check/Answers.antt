@@ -1,5 +1,4 @@
 -- `check` gives the first refusal of a source.
-use Rattle.std.proofs.Common.{rules}
 use mathlib.Core.Path.{ap, ◌∙◌}
 use Rattle.std.proofs.lemmas.Result.{err_from_is_err_and}
 use Rattle.text.specs.Refusal.{code}

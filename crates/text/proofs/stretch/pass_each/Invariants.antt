@@ -1,5 +1,5 @@
 -- `pass_each` looks at the bytes one after another.
-use Rattle.std.proofs.Common.{◌≡◌, ℕ, Bool, ◌+◌}
+use Rattle.std.proofs.Common.{ℕ, Bool, ◌+◌}
 use Rattle.text.specs.Stretch.{Tests, Passing}
 use Rattle.text.proofs.stretch.pass_each.Given as goal
 

@@ -1,7 +1,7 @@
 -- A step that passes is passed over.
 use Rattle.std.proofs.Common.{rules}
 use mathlib.Core.Path.{sym, ◌∙◌}
-use Rattle.text.proofs.Stretches.{passed_none, passed_more, each_stretch}
+use Rattle.text.proofs.Stretches.{passed_more, each_stretch}
 use Rattle.text.proofs.Places.{stood}
 use Rattle.text.proofs.stretch.pass_steps.Goals as goal
 

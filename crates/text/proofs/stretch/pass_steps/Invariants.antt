@@ -1,5 +1,5 @@
 -- `pass_steps` passes over whole steps.
-use Rattle.std.proofs.Common.{◌≡◌, ℕ, Bool, ◌-◌, length}
+use Rattle.std.proofs.Common.{ℕ, Bool, ◌-◌, length}
 use Rattle.text.specs.Stretch.{Tests, Passed}
 use Rattle.text.proofs.stretch.pass_steps.Given as goal
 

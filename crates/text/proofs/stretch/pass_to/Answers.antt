@@ -1,6 +1,5 @@
 -- A step is passed over whole, or up to the byte in it that does not pass.
 use Rattle.std.proofs.Common.{rules}
-use native.Mathlib.Omega.{arith}
 use Rattle.text.proofs.Stretches.{passed_more}
 use Rattle.text.proofs.Places.{stood, part_fits}
 use Rattle.text.proofs.stretch.pass_to.Goals as goal

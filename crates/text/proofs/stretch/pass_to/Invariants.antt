@@ -1,5 +1,5 @@
 -- `pass_to` looks at the steps one after another.
-use Rattle.std.proofs.Common.{◌≡◌, ℕ, Bool, ◌-◌, length}
+use Rattle.std.proofs.Common.{ℕ, Bool, ◌-◌, length}
 use Rattle.text.specs.Stretch.{Tests, Passed}
 use Rattle.text.proofs.stretch.pass_to.Given as goal
 
