@@ -1,1 +1,3 @@
+pub mod Decodes
+pub mod Number
 pub mod Pastes

@@ -1,180 +1,302 @@
 // The kinds of tokens and nodes, by their numbers (`syntax_kind.rs`).
-#[derive(Clone, Copy)]
-pub struct Kind {
-    pub number: u8,
+ghost use Rattle.std.specs.Prelude.{◌≡◌};
+ghost use Rattle.syntax_kind.specs.Number.{number, numbered_kinds};
+ghost use Rattle.syntax_kind.specs.Decodes.{Decodes};
+
+use text::refusal::Refusal;
+
+#[derive(Clone, Copy, PartialEq, Eq, Debug)]
+pub enum SyntaxKind {
+    // Identifier or keyword
+    IDENT_KW = 1,
+    // defined preprocessor keyword
+    DEFINED = 2,
+    // Digit sequence
+    DIGITS = 3,
+    // .
+    PERIOD = 4,
+    // +
+    PLUS = 5,
+    // -
+    DASH = 6,
+    // /
+    SLASH = 7,
+    // *
+    ASTERISK = 8,
+    // %
+    PERCENT = 9,
+    // <
+    LANGLE = 10,
+    // >
+    RANGLE = 11,
+    // [
+    LBRACKET = 12,
+    // ]
+    RBRACKET = 13,
+    // (
+    LPAREN = 14,
+    // )
+    RPAREN = 15,
+    // {
+    LBRACE = 16,
+    // }
+    RBRACE = 17,
+    // ^
+    CARET = 18,
+    // |
+    BAR = 19,
+    // &
+    AMPERSAND = 20,
+    // ~
+    TILDE = 21,
+    // =
+    EQUAL = 22,
+    // !
+    BANG = 23,
+    // :
+    COLON = 24,
+    // ;
+    SEMICOLON = 25,
+    // ,
+    COMMA = 26,
+    // ?
+    QUESTION = 27,
+    // #
+    HASH = 28,
+    // "string"
+    QUOTE_STRING = 29,
+    // <string>
+    ANGLE_STRING = 30,
+    // \
+    BACKSLASH = 31,
+    // Whitespace
+    WS = 32,
+    // Newline
+    NEWLINE = 33,
+    // Comment (single-line or multi-line)
+    COMMENT = 34,
+    // Line continuation, a token alone: the leaf is a WS
+    LINECONT = 35,
+    // Invalid token
+    ERROR = 36,
+    // <<
+    LEFT_OP = 37,
+    // >>
+    RIGHT_OP = 38,
+    // ++
+    INC_OP = 39,
+    // --
+    DEC_OP = 40,
+    // <=
+    LE_OP = 41,
+    // >=
+    GE_OP = 42,
+    // ==
+    EQ_OP = 43,
+    // !=
+    NE_OP = 44,
+    // &&
+    AND_OP = 45,
+    // ||
+    OR_OP = 46,
+    // ^^
+    XOR_OP = 47,
+    // *=
+    MUL_ASSIGN = 48,
+    // /=
+    DIV_ASSIGN = 49,
+    // +=
+    ADD_ASSIGN = 50,
+    // %=
+    MOD_ASSIGN = 51,
+    // <<=
+    LEFT_ASSIGN = 52,
+    // >>=
+    RIGHT_ASSIGN = 53,
+    // &=
+    AND_ASSIGN = 54,
+    // ^=
+    XOR_ASSIGN = 55,
+    // |=
+    OR_ASSIGN = 56,
+    // -=
+    SUB_ASSIGN = 57,
+    // ##
+    PP_CONCAT_OP = 58,
+    // Concatenation expression
+    PP_CONCAT = 59,
+    // #
+    PP_EMPTY = 60,
+    // #include
+    PP_INCLUDE = 61,
+    // #include path
+    PP_INCLUDE_PATH = 62,
+    // #define
+    PP_DEFINE = 63,
+    // #define arguments
+    PP_DEFINE_ARGS = 64,
+    // #define argument
+    PP_DEFINE_ARG = 65,
+    // #define body
+    PP_DEFINE_BODY = 66,
+    // #undef
+    PP_UNDEF = 67,
+    // Identifier of a directive
+    PP_IDENT = 68,
+    // #if
+    PP_IF = 69,
+    // #if expression
+    PP_IF_EXPR = 70,
+    // #ifdef
+    PP_IFDEF = 71,
+    // #ifndef
+    PP_IFNDEF = 72,
+    // #else
+    PP_ELSE = 73,
+    // #elif
+    PP_ELIF = 74,
+    // #endif
+    PP_ENDIF = 75,
+    // #error
+    PP_ERROR = 76,
+    // #error body
+    PP_ERROR_BODY = 77,
+    // #pragma
+    PP_PRAGMA = 78,
+    // #pragma body
+    PP_PRAGMA_BODY = 79,
+    // #extension
+    PP_EXTENSION = 80,
+    // #version
+    PP_VERSION = 81,
+    // #version number
+    PP_VERSION_NUMBER = 82,
+    // #version profile
+    PP_VERSION_PROFILE = 83,
+    // #line
+    PP_LINE = 84,
+    // #line body
+    PP_LINE_BODY = 85,
+    // AST root
+    ROOT = 86,
 }
 
-impl Kind {
-    // Identifier or keyword
-    pub const IDENT_KW: u8 = 1;
-    // defined preprocessor keyword
-    pub const DEFINED: u8 = 2;
-    // Digit sequence
-    pub const DIGITS: u8 = 3;
-    // .
-    pub const PERIOD: u8 = 4;
-    // +
-    pub const PLUS: u8 = 5;
-    // -
-    pub const DASH: u8 = 6;
-    // /
-    pub const SLASH: u8 = 7;
-    // *
-    pub const ASTERISK: u8 = 8;
-    // %
-    pub const PERCENT: u8 = 9;
-    // <
-    pub const LANGLE: u8 = 10;
-    // >
-    pub const RANGLE: u8 = 11;
-    // [
-    pub const LBRACKET: u8 = 12;
-    // ]
-    pub const RBRACKET: u8 = 13;
-    // (
-    pub const LPAREN: u8 = 14;
-    // )
-    pub const RPAREN: u8 = 15;
-    // {
-    pub const LBRACE: u8 = 16;
-    // }
-    pub const RBRACE: u8 = 17;
-    // ^
-    pub const CARET: u8 = 18;
-    // |
-    pub const BAR: u8 = 19;
-    // &
-    pub const AMPERSAND: u8 = 20;
-    // ~
-    pub const TILDE: u8 = 21;
-    // =
-    pub const EQUAL: u8 = 22;
-    // !
-    pub const BANG: u8 = 23;
-    // :
-    pub const COLON: u8 = 24;
-    // ;
-    pub const SEMICOLON: u8 = 25;
-    // ,
-    pub const COMMA: u8 = 26;
-    // ?
-    pub const QUESTION: u8 = 27;
-    // #
-    pub const HASH: u8 = 28;
-    // "string"
-    pub const QUOTE_STRING: u8 = 29;
-    // <string>
-    pub const ANGLE_STRING: u8 = 30;
-    // \
-    pub const BACKSLASH: u8 = 31;
-    // Whitespace
-    pub const WS: u8 = 32;
-    // Newline
-    pub const NEWLINE: u8 = 33;
-    // Comment (single-line or multi-line)
-    pub const COMMENT: u8 = 34;
-    // Line continuation, a token alone: the leaf is a WS
-    pub const LINECONT: u8 = 35;
-    // Invalid token
-    pub const ERROR: u8 = 36;
-    // <<
-    pub const LEFT_OP: u8 = 37;
-    // >>
-    pub const RIGHT_OP: u8 = 38;
-    // ++
-    pub const INC_OP: u8 = 39;
-    // --
-    pub const DEC_OP: u8 = 40;
-    // <=
-    pub const LE_OP: u8 = 41;
-    // >=
-    pub const GE_OP: u8 = 42;
-    // ==
-    pub const EQ_OP: u8 = 43;
-    // !=
-    pub const NE_OP: u8 = 44;
-    // &&
-    pub const AND_OP: u8 = 45;
-    // ||
-    pub const OR_OP: u8 = 46;
-    // ^^
-    pub const XOR_OP: u8 = 47;
-    // *=
-    pub const MUL_ASSIGN: u8 = 48;
-    // /=
-    pub const DIV_ASSIGN: u8 = 49;
-    // +=
-    pub const ADD_ASSIGN: u8 = 50;
-    // %=
-    pub const MOD_ASSIGN: u8 = 51;
-    // <<=
-    pub const LEFT_ASSIGN: u8 = 52;
-    // >>=
-    pub const RIGHT_ASSIGN: u8 = 53;
-    // &=
-    pub const AND_ASSIGN: u8 = 54;
-    // ^=
-    pub const XOR_ASSIGN: u8 = 55;
-    // |=
-    pub const OR_ASSIGN: u8 = 56;
-    // -=
-    pub const SUB_ASSIGN: u8 = 57;
-    // ##
-    pub const PP_CONCAT_OP: u8 = 58;
-    // Concatenation expression
-    pub const PP_CONCAT: u8 = 59;
-    // #
-    pub const PP_EMPTY: u8 = 60;
-    // #include
-    pub const PP_INCLUDE: u8 = 61;
-    // #include path
-    pub const PP_INCLUDE_PATH: u8 = 62;
-    // #define
-    pub const PP_DEFINE: u8 = 63;
-    // #define arguments
-    pub const PP_DEFINE_ARGS: u8 = 64;
-    // #define argument
-    pub const PP_DEFINE_ARG: u8 = 65;
-    // #define body
-    pub const PP_DEFINE_BODY: u8 = 66;
-    // #undef
-    pub const PP_UNDEF: u8 = 67;
-    // Identifier of a directive
-    pub const PP_IDENT: u8 = 68;
-    // #if
-    pub const PP_IF: u8 = 69;
-    // #if expression
-    pub const PP_IF_EXPR: u8 = 70;
-    // #ifdef
-    pub const PP_IFDEF: u8 = 71;
-    // #ifndef
-    pub const PP_IFNDEF: u8 = 72;
-    // #else
-    pub const PP_ELSE: u8 = 73;
-    // #elif
-    pub const PP_ELIF: u8 = 74;
-    // #endif
-    pub const PP_ENDIF: u8 = 75;
-    // #error
-    pub const PP_ERROR: u8 = 76;
-    // #error body
-    pub const PP_ERROR_BODY: u8 = 77;
-    // #pragma
-    pub const PP_PRAGMA: u8 = 78;
-    // #pragma body
-    pub const PP_PRAGMA_BODY: u8 = 79;
-    // #extension
-    pub const PP_EXTENSION: u8 = 80;
-    // #version
-    pub const PP_VERSION: u8 = 81;
-    // #version number
-    pub const PP_VERSION_NUMBER: u8 = 82;
-    // #version profile
-    pub const PP_VERSION_PROFILE: u8 = 83;
-    // #line
-    pub const PP_LINE: u8 = 84;
-    // #line body
-    pub const PP_LINE_BODY: u8 = 85;
-    // AST root
-    pub const ROOT: u8 = 86;
+// The number of a kind, as it stands in a table.
+impl From<SyntaxKind> for u32 {
+    ghost from_gives = { λ k n. n ≡ number k };
+
+    fn from(k: SyntaxKind) -> u32 {
+        k as u32
+    }
+}
+
+// The kinds in the order of their numbers, from 1.
+const KINDS: [SyntaxKind; 86] = [
+    SyntaxKind::IDENT_KW,
+    SyntaxKind::DEFINED,
+    SyntaxKind::DIGITS,
+    SyntaxKind::PERIOD,
+    SyntaxKind::PLUS,
+    SyntaxKind::DASH,
+    SyntaxKind::SLASH,
+    SyntaxKind::ASTERISK,
+    SyntaxKind::PERCENT,
+    SyntaxKind::LANGLE,
+    SyntaxKind::RANGLE,
+    SyntaxKind::LBRACKET,
+    SyntaxKind::RBRACKET,
+    SyntaxKind::LPAREN,
+    SyntaxKind::RPAREN,
+    SyntaxKind::LBRACE,
+    SyntaxKind::RBRACE,
+    SyntaxKind::CARET,
+    SyntaxKind::BAR,
+    SyntaxKind::AMPERSAND,
+    SyntaxKind::TILDE,
+    SyntaxKind::EQUAL,
+    SyntaxKind::BANG,
+    SyntaxKind::COLON,
+    SyntaxKind::SEMICOLON,
+    SyntaxKind::COMMA,
+    SyntaxKind::QUESTION,
+    SyntaxKind::HASH,
+    SyntaxKind::QUOTE_STRING,
+    SyntaxKind::ANGLE_STRING,
+    SyntaxKind::BACKSLASH,
+    SyntaxKind::WS,
+    SyntaxKind::NEWLINE,
+    SyntaxKind::COMMENT,
+    SyntaxKind::LINECONT,
+    SyntaxKind::ERROR,
+    SyntaxKind::LEFT_OP,
+    SyntaxKind::RIGHT_OP,
+    SyntaxKind::INC_OP,
+    SyntaxKind::DEC_OP,
+    SyntaxKind::LE_OP,
+    SyntaxKind::GE_OP,
+    SyntaxKind::EQ_OP,
+    SyntaxKind::NE_OP,
+    SyntaxKind::AND_OP,
+    SyntaxKind::OR_OP,
+    SyntaxKind::XOR_OP,
+    SyntaxKind::MUL_ASSIGN,
+    SyntaxKind::DIV_ASSIGN,
+    SyntaxKind::ADD_ASSIGN,
+    SyntaxKind::MOD_ASSIGN,
+    SyntaxKind::LEFT_ASSIGN,
+    SyntaxKind::RIGHT_ASSIGN,
+    SyntaxKind::AND_ASSIGN,
+    SyntaxKind::XOR_ASSIGN,
+    SyntaxKind::OR_ASSIGN,
+    SyntaxKind::SUB_ASSIGN,
+    SyntaxKind::PP_CONCAT_OP,
+    SyntaxKind::PP_CONCAT,
+    SyntaxKind::PP_EMPTY,
+    SyntaxKind::PP_INCLUDE,
+    SyntaxKind::PP_INCLUDE_PATH,
+    SyntaxKind::PP_DEFINE,
+    SyntaxKind::PP_DEFINE_ARGS,
+    SyntaxKind::PP_DEFINE_ARG,
+    SyntaxKind::PP_DEFINE_BODY,
+    SyntaxKind::PP_UNDEF,
+    SyntaxKind::PP_IDENT,
+    SyntaxKind::PP_IF,
+    SyntaxKind::PP_IF_EXPR,
+    SyntaxKind::PP_IFDEF,
+    SyntaxKind::PP_IFNDEF,
+    SyntaxKind::PP_ELSE,
+    SyntaxKind::PP_ELIF,
+    SyntaxKind::PP_ENDIF,
+    SyntaxKind::PP_ERROR,
+    SyntaxKind::PP_ERROR_BODY,
+    SyntaxKind::PP_PRAGMA,
+    SyntaxKind::PP_PRAGMA_BODY,
+    SyntaxKind::PP_EXTENSION,
+    SyntaxKind::PP_VERSION,
+    SyntaxKind::PP_VERSION_NUMBER,
+    SyntaxKind::PP_VERSION_PROFILE,
+    SyntaxKind::PP_LINE,
+    SyntaxKind::PP_LINE_BODY,
+    SyntaxKind::ROOT,
+];
+
+fn kinds() -> [SyntaxKind; 86]
+    ensures { result ≡ numbered_kinds }
+{
+    KINDS
+}
+
+// The kind of a number; 0, 35 (a token alone) and those above 86 are no kinds that are pasted.
+impl TryFrom<u32> for SyntaxKind {
+    type Error = Refusal;
+
+    ghost try_from_gives = { Decodes };
+
+    fn try_from(k: u32) -> Result<Self, Refusal> {
+        if k == 0 || k == SyntaxKind::LINECONT as u32 || (SyntaxKind::ROOT as u32) < k {
+            return Err(Refusal::Kind);
+        }
+        let all = kinds();
+        Ok(all[k as usize - 1])
+    }
 }

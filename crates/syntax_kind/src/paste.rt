@@ -1,11 +1,12 @@
 // Pasting two kinds (`SyntaxKind::paste`).
 ghost use Rattle.std.specs.Prelude.{◌≡◌};
-ghost use Rattle.definition.specs.SyntaxKind.{Kind as SyntaxKind};
+ghost use Rattle.definition.specs.SyntaxKind.{Kind};
 ghost use Rattle.definition.specs.Glue.{pasted_kind as Glue·pasted_kind};
-ghost use Rattle.definition.specs.Calls.{pasting, no_kind};
-ghost use Rattle.syntax_kind.specs.Pastes.{Pastes};
+ghost use Rattle.definition.specs.Calls.{pasting};
+ghost use Rattle.syntax_kind.specs.Number.{number};
+ghost use Rattle.syntax_kind.specs.Pastes.{Pastes, answer};
 
-use crate::kind::Kind;
+use crate::kind::SyntaxKind;
 use crate::operators::glue;
 use text::refusal::Refusal;
 
@@ -17,81 +18,72 @@ pub struct Pasted {
     pub kind: u32,
 }
 
+impl From<Result<SyntaxKind, Refusal>> for Pasted {
+    ghost from_gives = { λ o p. p ≡ answer o };
+
+    fn from(outcome: Result<SyntaxKind, Refusal>) -> Pasted {
+        match outcome {
+            Ok(kind) => Pasted {
+                refusal: 0,
+                kind: kind.into(),
+            },
+            Err(refusal) => Pasted {
+                refusal: refusal.into(),
+                kind: 0,
+            },
+        }
+    }
+}
+
 // An identifier may be made longer,
-fn ident(rhs: u8) -> u8
-    ensures { result ≡ Glue·pasted_kind SyntaxKind.IDENT_KW rhs }
+#[tactic(auto, unfolding(definition::specs::Glue::pasted_kind, definition::specs::Glue::glued))]
+fn ident(rhs: SyntaxKind) -> SyntaxKind
+    ensures { number result ≡ Glue·pasted_kind Kind.IDENT_KW (number rhs) }
 {
     match rhs {
-        Kind::DEFINED => Kind::IDENT_KW,
-        Kind::IDENT_KW => Kind::IDENT_KW,
-        Kind::DIGITS => Kind::IDENT_KW,
-        _ => Kind::ERROR,
+        SyntaxKind::DEFINED | SyntaxKind::IDENT_KW | SyntaxKind::DIGITS => SyntaxKind::IDENT_KW,
+        _ => SyntaxKind::ERROR,
     }
 }
 
 // and a number.
-fn digits(rhs: u8) -> u8
-    ensures { result ≡ Glue·pasted_kind SyntaxKind.DIGITS rhs }
+#[tactic(auto, unfolding(definition::specs::Glue::pasted_kind, definition::specs::Glue::glued))]
+fn digits(rhs: SyntaxKind) -> SyntaxKind
+    ensures { number result ≡ Glue·pasted_kind Kind.DIGITS (number rhs) }
 {
     match rhs {
-        Kind::IDENT_KW => Kind::DIGITS,
-        Kind::DIGITS => Kind::DIGITS,
-        Kind::PERIOD => Kind::DIGITS,
-        Kind::DASH => Kind::DIGITS,
-        Kind::PLUS => Kind::DIGITS,
-        _ => Kind::ERROR,
+        SyntaxKind::IDENT_KW
+        | SyntaxKind::DIGITS
+        | SyntaxKind::PERIOD
+        | SyntaxKind::DASH
+        | SyntaxKind::PLUS => SyntaxKind::DIGITS,
+        _ => SyntaxKind::ERROR,
     }
 }
 
 // The kind of two kinds pasted: an identifier or a number made longer, or the two glued; ERROR if they don't paste.
-fn pasted_kind(lhs: u8, rhs: u8) -> u8
-    ensures { result ≡ Glue·pasted_kind lhs rhs }
+fn pasted_kind(lhs: SyntaxKind, rhs: SyntaxKind) -> SyntaxKind
+    ensures { number result ≡ Glue·pasted_kind (number lhs) (number rhs) }
 {
-    if lhs == Kind::IDENT_KW {
-        return ident(rhs);
+    match lhs {
+        SyntaxKind::IDENT_KW => ident(rhs),
+        SyntaxKind::DIGITS => digits(rhs),
+        _ => glue(lhs, rhs).unwrap_or(SyntaxKind::ERROR),
     }
-    if lhs == Kind::DIGITS {
-        return digits(rhs);
-    }
-    let kind = glue(lhs, rhs);
-    if kind == 0 {
-        return Kind::ERROR;
-    }
-    kind
 }
 
-// Whether a number is no kind: 0, 35 (a token alone) or above 86.
-fn no_kind(k: u32) -> bool
-    ensures { result ≡ (no_kind k).fails }
+// The kind of two numbers' kinds pasted.
+fn paste_numbers(lhs: u32, rhs: u32) -> Result<SyntaxKind, Refusal>
+    ensures { Pastes (pasting lhs rhs) (answer result) }
 {
-    if k == 0 {
-        return true;
-    }
-    if k == Kind::LINECONT as u32 {
-        return true;
-    }
-    (Kind::ROOT as u32) < k
+    let lhs = SyntaxKind::try_from(lhs)?;
+    let rhs = SyntaxKind::try_from(rhs)?;
+    Ok(pasted_kind(lhs, rhs))
 }
 
 // Pastes two kinds, or refuses a number that is no kind.
 pub fn paste(lhs: u32, rhs: u32) -> Pasted
     ensures { Pastes (pasting lhs rhs) result }
 {
-    if no_kind(lhs) {
-        return Pasted {
-            refusal: Refusal::KIND,
-            kind: 0,
-        };
-    }
-    if no_kind(rhs) {
-        return Pasted {
-            refusal: Refusal::KIND,
-            kind: 0,
-        };
-    }
-    let kind = pasted_kind((lhs % 256) as u8, (rhs % 256) as u8);
-    Pasted {
-        refusal: Refusal::NONE,
-        kind: kind as u32,
-    }
+    paste_numbers(lhs, rhs).into()
 }
