@@ -16,12 +16,8 @@ use Rattle.theorems.proofs.Lexing.Chars.{char_row}
 use Rattle.theorems.proofs.Lexing.Walk.{walk_same, walk_more, walk_stop, walk_fits, zero_none, walk_free, walk_behind}
 use Rattle.text.specs.Newline.{newline_len}
 use Rattle.text.proofs.Newlines.{newline_is}
-use Rattle.pre.specs.Scan.{from}
-use Rattle.pre.specs.declared.token.Token.{Token}
+use Rattle.pre.specs.Scan.{Token, token, from}
 use Rattle.pre.proofs.Classes.{Closed}
-
-abbrev pub token : ℕ → ℕ → Token
-token k e = record { kind = k; end = e }
 
 -- The end of the source ends the token.
 pub from_end : (q : State) (c i : ℕ) (s : List ℕ) → length s ≤ i → from q c i s ≡ token (kind_of q) i

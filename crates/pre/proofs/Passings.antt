@@ -23,7 +23,8 @@ use Rattle.text.proofs.Places.{place_here, place_nowhere, look_part, look_whole,
 use Rattle.pre.specs.Scan.{from}
 use Rattle.pre.specs.Passes.{quiet, in_line, line_step, in_word, word_step, star_mark, mark_look, star_look, Passes}
 use Rattle.pre.proofs.Classes.{Closed, closed_by, closed_is, letter_within, digit_within}
-use Rattle.pre.proofs.Froms.{token, from_more, go_on, stop_at}
+use Rattle.pre.specs.Scan.{token}
+use Rattle.pre.proofs.Froms.{from_more, go_on, stop_at}
 use Rattle.pre.proofs.Absorbs.{any_line, any_comment}
 
 or_left : (x y : Bool) → x ≡ true → (x || y) ≡ true

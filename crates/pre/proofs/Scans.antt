@@ -18,7 +18,8 @@ use Rattle.text.proofs.Newlines.{newline_none, no_newline, a_newline, newline_wi
 use Rattle.theorems.proofs.Lexing.Walk.{zero_none}
 use Rattle.pre.specs.Scan.{from}
 use Rattle.pre.proofs.Classes.{Closed, closed_is}
-use Rattle.pre.proofs.Froms.{token, from_end, from_more, go_on, stop_at, done_is, behind_newline}
+use Rattle.pre.specs.Scan.{token}
+use Rattle.pre.proofs.Froms.{from_end, from_more, go_on, stop_at, done_is, behind_newline}
 
 -- A newline of w bytes stands within the source.
 below : (s : List ℕ) (j w : ℕ) → w ≡ newline_len (chars (drop j s)) → (w ≡ 0 → ⊥) → j < length s

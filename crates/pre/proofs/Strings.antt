@@ -11,7 +11,7 @@ use Rattle.definition.specs.SyntaxKind.{Kind}
 use Rattle.definition.specs.Pre.{State, done, quote_string, angle_string, more, kind_of}
 use Rattle.pre.specs.Scan.{from}
 use Rattle.pre.proofs.Classes.{closed, closed_is}
-use Rattle.pre.proofs.Froms.{token}
+use Rattle.pre.specs.Scan.{token}
 use Rattle.pre.proofs.Absorbs.{any_quote, any_angle}
 use Rattle.pre.proofs.Scans.{Same, same_end, same_by, same_last}
 

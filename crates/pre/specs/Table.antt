@@ -1,16 +1,18 @@
 -- The table of 256 classes for first bytes (01, "Gluing and lexing").
-use Rattle.std.specs.Prelude.{ℕ, zero, suc, List, [], ◌∷◌}
+use Rattle.std.specs.Prelude.{ℕ, zero, suc, List, [], ◌∷◌, map}
 use Rattle.definition.specs.SyntaxKind.{Kind}
 use Rattle.definition.specs.Newline.{Class, LETTER, DIGIT, NEWLINE, WS, PUNCT, class}
 use Rattle.definition.specs.Pre.{find, puncts}
+use Rattle.syntax_kind.specs.Number.{kind_of}
+use Rattle.syntax_kind.specs.declared.kind.SyntaxKind.{SyntaxKind}
 
 -- The kind of a character that is a token by itself.
 unfoldable pub punct : ℕ → ℕ
 punct b = find b puncts Kind.PERIOD
 
--- The numbers of the classes. Punctuation has none of its own: its entry is the character's kind, PERIOD or more.
+-- A byte's entry is the kind of the token that it begins; that of a letter is IDENT_KW, of a digit DIGITS.
 abbrev pub ClassNumber : record { LETTER : ℕ; DIGIT : ℕ; NEWLINE : ℕ; WS : ℕ }
-ClassNumber = record { LETTER = 0; DIGIT = 1; NEWLINE = 2; WS = 3 }
+ClassNumber = record { LETTER = Kind.IDENT_KW; DIGIT = Kind.DIGITS; NEWLINE = Kind.NEWLINE; WS = Kind.WS }
 
 unfoldable pub class_number_of : Class → ℕ → ℕ
 class_number_of LETTER b = ClassNumber.LETTER
@@ -29,5 +31,5 @@ values f i zero = []
 values f i (suc n) = f i ∷ values f (suc i) n
 
 -- The entries of all bytes.
-unfoldable pub class_table : List ℕ
-class_table = values class_number 0 256
+unfoldable pub class_table : List SyntaxKind
+class_table = map kind_of (values class_number 0 256)

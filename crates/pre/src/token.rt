@@ -1,6 +1,8 @@
 // A token of the pre-lexer as it is read: its kind, and where it ends (`pre/token.rs`).
-#[derive(Clone, Copy)]
+use syntax_kind::kind::SyntaxKind;
+
+#[derive(Clone, Copy, PartialEq, Eq, Debug)]
 pub struct Token {
-    pub kind: u8,
+    pub kind: SyntaxKind,
     pub end: usize,
 }

@@ -5,14 +5,10 @@ use native.Mathlib.Nat.{add-zero}
 use mathlib.Core.Path.{◌≡◌, refl, sym, ap, ◌∙◌}
 use mathlib.Core.List.{List, [], ◌∷◌, map}
 use lib.ListN.{get_or, length}
-use Rattle.syntax_kind.specs.Number.{number, numbered_kinds}
+use Rattle.syntax_kind.specs.Number.{number, numbered_kinds, kind_of}
 use Rattle.syntax_kind.specs.declared.kind.SyntaxKind.{SyntaxKind}
 use Rattle.syntax_kind.specs.declared.kind.SyntaxKind.TheVariants as kind
 use Rattle.syntax_kind.proofs.Matches.{NoneOf}
-
--- A kind by its number.
-abbrev kind_of : ℕ → SyntaxKind
-kind_of n = get_or numbered_kinds (Prim.Native.Nat.pred n) kind.ERROR
 
 again : (k : SyntaxKind) → kind_of (number k) ≡ k
 again kind.IDENT_KW = refl

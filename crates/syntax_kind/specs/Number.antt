@@ -1,5 +1,5 @@
 -- Kinds by their numbers.
-use Rattle.std.specs.Prelude.{ℕ, Option, Some, None, List, [], ◌∷◌}
+use Rattle.std.specs.Prelude.{ℕ, Option, Some, None, List, [], ◌∷◌, pred, get_or}
 use Rattle.definition.specs.SyntaxKind.{Kind}
 use Rattle.syntax_kind.specs.declared.kind.SyntaxKind.{SyntaxKind}
 use Rattle.syntax_kind.specs.declared.kind.SyntaxKind.TheVariants as kind
@@ -113,3 +113,7 @@ numbered_kinds =
     kind.PP_ELSE ∷ kind.PP_ELIF ∷ kind.PP_ENDIF ∷ kind.PP_ERROR ∷ kind.PP_ERROR_BODY ∷ kind.PP_PRAGMA ∷ kind.PP_PRAGMA_BODY ∷ kind.PP_EXTENSION ∷
     kind.PP_VERSION ∷ kind.PP_VERSION_NUMBER ∷ kind.PP_VERSION_PROFILE ∷ kind.PP_LINE ∷ kind.PP_LINE_BODY ∷ kind.ROOT ∷
     []
+
+-- A kind by its number; ERROR above the last.
+abbrev pub kind_of : ℕ → SyntaxKind
+kind_of n = get_or numbered_kinds (pred n) kind.ERROR

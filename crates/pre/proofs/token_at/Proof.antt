@@ -18,7 +18,8 @@ use Rattle.pre.specs.Scan.{from}
 use Rattle.pre.specs.declared.token.Token.{Token}
 use Rattle.pre.proofs.Classes.{Closed, says, closed_word, closed_blank}
 use Rattle.pre.proofs.States.{begin_letter, begin_digit, begin_newline, begin_blank}
-use Rattle.pre.proofs.Froms.{token, shut, done_is, behind_newline}
+use Rattle.pre.specs.Scan.{token}
+use Rattle.pre.proofs.Froms.{shut, done_is, behind_newline}
 use Rattle.pre.proofs.Scans.{newline_fits}
 use Rattle.pre.proofs.token_at.Statement.{statement}
 use Rattle.pre.proofs.token_at.Tie as tie

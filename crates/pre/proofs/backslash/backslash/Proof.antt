@@ -9,7 +9,8 @@ use Rattle.definition.specs.Pre.{done, backslash, alone}
 use Rattle.text.specs.Newline.{newline_len}
 use Rattle.text.proofs.Cases.{cases}
 use Rattle.pre.specs.Scan.{from}
-use Rattle.pre.proofs.Froms.{token, done_is}
+use Rattle.pre.specs.Scan.{token}
+use Rattle.pre.proofs.Froms.{done_is}
 use Rattle.pre.proofs.Scans.{newline_fits, back_stop, back_go, back_alone}
 use Rattle.pre.proofs.backslash.backslash.Statement.{statement}
 use Rattle.pre.proofs.backslash.backslash.Tie as tie

@@ -13,7 +13,8 @@ use Rattle.definition.specs.Newline.{LF, CR, char_more}
 use Rattle.definition.specs.Pre.{done, more, kind_of}
 use Rattle.text.proofs.Cases.{cases}
 use Rattle.pre.specs.Scan.{from}
-use Rattle.pre.proofs.Froms.{token, from_end, from_stop, from_same}
+use Rattle.pre.specs.Scan.{token}
+use Rattle.pre.proofs.Froms.{from_end, from_stop, from_same}
 use Rattle.pre.proofs.character.rest_of_character.Statement.{statement}
 use Rattle.pre.proofs.character.rest_of_character.Tie as tie
 

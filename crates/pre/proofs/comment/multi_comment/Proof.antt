@@ -12,7 +12,7 @@ use Rattle.text.proofs.Cases.{cases}
 use Rattle.pre.specs.Scan.{from}
 use Rattle.pre.specs.Passes.{Passes}
 use Rattle.pre.proofs.Classes.{closed_is}
-use Rattle.pre.proofs.Froms.{token}
+use Rattle.pre.specs.Scan.{token}
 use Rattle.pre.proofs.Absorbs.{any_comment}
 use Rattle.pre.proofs.Scans.{Same, same_end, same_go, same_by, same_last}
 use Rattle.pre.proofs.comment.multi_comment.Statement.{statement}

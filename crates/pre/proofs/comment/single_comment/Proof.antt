@@ -22,7 +22,8 @@ use Rattle.pre.specs.Scan.{from, width_at}
 use Rattle.pre.specs.Passes.{Passes}
 use Rattle.pre.proofs.Classes.{closed_is, no_newline}
 use Rattle.pre.proofs.States.{single_goes, single_stops}
-use Rattle.pre.proofs.Froms.{token, from_more, behind_newline}
+use Rattle.pre.specs.Scan.{token}
+use Rattle.pre.proofs.Froms.{from_more, behind_newline}
 use Rattle.pre.proofs.Absorbs.{any_line}
 use Rattle.pre.proofs.Scans.{Same, same_end, same_go, same_by, same_stop, passed}
 use Rattle.pre.proofs.comment.single_comment.Statement.{statement}

@@ -11,7 +11,8 @@ use Rattle.text.proofs.Cases.{cases}
 use Rattle.pre.specs.Scan.{from}
 use Rattle.pre.specs.declared.token.Token.{Token}
 use Rattle.pre.proofs.Classes.{closed_is}
-use Rattle.pre.proofs.Froms.{token, from_end, go_on, stop_at}
+use Rattle.pre.specs.Scan.{token}
+use Rattle.pre.proofs.Froms.{from_end, go_on, stop_at}
 use Rattle.pre.proofs.comment.slash.Statement.{statement}
 use Rattle.pre.proofs.comment.slash.Tie as tie
 

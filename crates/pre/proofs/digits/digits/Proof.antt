@@ -17,7 +17,7 @@ use Rattle.pre.specs.Table.{ClassNumber, class_number}
 use Rattle.pre.specs.Scan.{from, takes_point}
 use Rattle.pre.proofs.Classes.{closed_word}
 use Rattle.pre.proofs.States.{digits_digit, digits_letter, digits_take, digits_backslash, digits_stops, closed_point}
-use Rattle.pre.proofs.Froms.{token}
+use Rattle.pre.specs.Scan.{token}
 use Rattle.pre.proofs.Scans.{Same, same_end, same_go, same_stop, same_bare, same_cont, back_digits, passed_fits, passed_falls}
 use Rattle.pre.proofs.digits.digits.Statement.{statement}
 use Rattle.pre.proofs.digits.digits.Tie as tie

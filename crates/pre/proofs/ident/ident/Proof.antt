@@ -13,7 +13,7 @@ use Rattle.pre.specs.Table.{ClassNumber, class_number}
 use Rattle.pre.specs.Scan.{from}
 use Rattle.pre.proofs.Classes.{closed_is, closed_word}
 use Rattle.pre.proofs.States.{ident_goes, ident_stops}
-use Rattle.pre.proofs.Froms.{token}
+use Rattle.pre.specs.Scan.{token}
 use Rattle.pre.proofs.Scans.{Same, same_end, same_go, same_stop, same_bare, same_cont, back_ident, passed_fits, passed_falls}
 use Rattle.pre.proofs.ident.ident.Statement.{statement}
 use Rattle.pre.proofs.ident.ident.Tie as tie

@@ -12,7 +12,8 @@ use Rattle.pre.specs.Scan.{from}
 use Rattle.pre.specs.declared.token.Token.{Token}
 use Rattle.pre.proofs.Classes.{closed, closed_is, says, closed_punct}
 use Rattle.pre.proofs.States.{Plain, begin_slash, begin_backslash, begin_punct}
-use Rattle.pre.proofs.Froms.{token, shut, done_is}
+use Rattle.pre.specs.Scan.{token}
+use Rattle.pre.proofs.Froms.{shut, done_is}
 use Rattle.pre.proofs.punct.punct.Statement.{statement}
 use Rattle.pre.proofs.punct.punct.Tie as tie
 

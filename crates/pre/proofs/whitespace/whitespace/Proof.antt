@@ -10,7 +10,7 @@ use Rattle.pre.specs.Table.{ClassNumber, class_number}
 use Rattle.pre.specs.Scan.{from}
 use Rattle.pre.proofs.Classes.{closed_blank}
 use Rattle.pre.proofs.States.{whitespace_goes, whitespace_stops}
-use Rattle.pre.proofs.Froms.{token}
+use Rattle.pre.specs.Scan.{token}
 use Rattle.pre.proofs.Scans.{Same, same_end, same_go, same_stop}
 use Rattle.pre.proofs.whitespace.whitespace.Statement.{statement}
 use Rattle.pre.proofs.whitespace.whitespace.Tie as tie
