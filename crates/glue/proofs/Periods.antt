@@ -1,7 +1,7 @@
 -- What glues to a PERIOD: DIGITS, behind which nothing glues.
 use Rattle.std.specs.Prelude.{if◌then◌else◌}
 use Prim.Native.Nat.{ℕ, ◌+◌, ◌-◌, suc, ◌<◌}
-use mathlib.Core.Path.{◌≡◌, refl, sym, ◌∙◌}
+use mathlib.Core.Path.{◌≡◌, refl, sym, ap, ◌∙◌}
 use mathlib.Core.Bool.{Bool, true, false, ◌&&◌}
 use mathlib.Core.List.{List}
 use mathlib.Core.Option.{none}
@@ -21,10 +21,15 @@ use Rattle.theorems.specs.Step.{Stepped, PreStepped, Gluing}
 use Rattle.theorems.proofs.Lexing.Gluing.{glue_on, glue_stop}
 use Rattle.theorems.proofs.Lexing.Glues.{every, settled_none}
 use Rattle.theorems.proofs.Lexing.PreAt.{pre_at, glue_settled}
-use Rattle.pre.specs.Table.{ClassNumber, class_number}
-use Rattle.pre.specs.Scan.{from}
-use Rattle.pre.specs.declared.token.Token.{Token}
-use Rattle.pre.proofs.Classes.{Within, says, digit_within, closed_word}
+use Rattle.syntax_kind.specs.Number.{number}
+use Rattle.syntax_kind.specs.declared.kind.SyntaxKind.{SyntaxKind}
+use Rattle.syntax_kind.specs.declared.kind.SyntaxKind.TheVariants as kind
+use Rattle.syntax_kind.proofs.Numbers.{other_kind}
+use Rattle.pre.specs.Table.{class_number}
+use Rattle.pre.specs.Scan.{Token, from, told}
+use Rattle.pre.specs.declared.token.Token as code
+use Rattle.pre.proofs.Classes.{Within, digit_is, digit_within, closed_digit}
+use Rattle.glue.proofs.Begins.{entry_is}
 use Rattle.pre.proofs.States.{begin_digit, flag_kept}
 use Rattle.pre.proofs.Froms.{shut}
 use Rattle.glue.proofs.Peeks.{not_digits}
@@ -51,24 +56,31 @@ named_not k xs n e = go (eqb k Kind.IDENT_KW && same (unescaped xs) defined) e
     go true e = omega arith
     go false e = n e
 
-module _ (s : List ℕ) (start : ℕ) (f : Bool) (e : ℕ) (g : Bool) (u : Gluing s start f Kind.PERIOD e g) (h : e < length s) (c : ℕ) (y : c ≡ class_number (get_or s e 0)) where
-  pub period_other : (c ≡ ClassNumber.DIGIT → ⊥) → Stepped s start f Kind.PERIOD e g
-  period_other n = glue_stop s start f Kind.PERIOD e g u _ _ _ (pre_at s e g h) (period_none _ (not_digits s e g _ (λ z. n (y ∙ z))))
+module _ (s : List ℕ) (start : ℕ) (f : Bool) (e : ℕ) (g : Bool) (u : Gluing s start f Kind.PERIOD e g) (h : e < length s)
+    (c : SyntaxKind) (y : number c ≡ class_number (get_or s e 0)) where
+  pub period_other : (c ≡ kind.DIGITS → ⊥) → Stepped s start f Kind.PERIOD e g
+  period_other n = glue_stop s start f Kind.PERIOD e g u _ _ _ (pre_at s e g h) (period_none _ (not_digits s e g _ (λ z. other_kind c kind.DIGITS n (y ∙ z))))
 
-  module _ (z : c ≡ ClassNumber.DIGIT) (r : Token) (q : r ≡ from (digits false false) 0 (e + 1) s) where
+  module _ (z : c ≡ kind.DIGITS) (t : code.Token) (q : told t ≡ from (digits false false) 0 (e + 1) s) where
+    abbrev r : Token
+    r = told t
+
     digits_at : PreStepped s e g (name_kind r.kind (take (r.end - e) (drop e s))) r.end g
     digits_at =
         let b : ℕ = get_or s e 0 in
-        let w : Within (byte "0") (byte "9") b = digit_within b ((says b c y).digit_is z) in
-        let k : flag g b ≡ g = flag_kept b c g y (λ x. omega arith) (λ x. omega arith) (λ x. omega arith) in
-        let x : r ≡ from (begin g b) b (e + 1) s = q ∙ rw (begin_digit b c g y z) (sym (shut (digits false false) b (e + 1) s (closed_word b c y (omega arith)))) in
+        let w : Within (byte "0") (byte "9") b = digit_within b (digit_is b c y z) in
+        let k : flag g b ≡ g = flag_kept b c g y (λ x. absurd (digits_no_newline x)) (λ x. omega arith) (λ x. omega arith) in
+        let x : r ≡ from (begin g b) b (e + 1) s = q ∙ rw (begin_digit b c g y z) (sym (shut (digits false false) b (e + 1) s (closed_digit b c y z))) in
         rw k at (pre_from s e g r h x)
+      where
+        digits_no_newline : c ≡ kind.NEWLINE → ⊥
+        digits_no_newline x = let m : Kind.NEWLINE ≡ Kind.DIGITS = ap number (sym x ∙ z) in omega arith
 
-    pub period_digits : r.kind ≡ Kind.DIGITS → Stepped s start f Kind.DIGITS r.end g
+    pub period_digits : t.kind ≡ kind.DIGITS → Stepped s start f Kind.DIGITS r.end g
     unfolding glued name_kind every
     period_digits x =
-        glue_settled s start f Kind.DIGITS r.end g (glue_on s start f Kind.PERIOD e g u _ r.end g digits_at Kind.DIGITS (rw x))
+        glue_settled s start f Kind.DIGITS r.end g (glue_on s start f Kind.PERIOD e g u _ r.end g digits_at Kind.DIGITS (rw (ap number x)))
         (λ d. settled_none 0 Kind.DIGITS Kind.DIGITS d refl (omega arith) (omega arith))
 
-    pub period_cut : (r.kind ≡ Kind.DIGITS → ⊥) → Stepped s start f Kind.PERIOD e g
-    period_cut n = glue_stop s start f Kind.PERIOD e g u _ r.end g digits_at (period_none _ (named_not r.kind _ n))
+    pub period_cut : (t.kind ≡ kind.DIGITS → ⊥) → Stepped s start f Kind.PERIOD e g
+    period_cut n = glue_stop s start f Kind.PERIOD e g u _ r.end g digits_at (period_none _ (named_not r.kind _ (other_kind t.kind kind.DIGITS n)))

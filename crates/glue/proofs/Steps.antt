@@ -1,6 +1,8 @@
 -- A step of the lexer, from the step of the pre-lexer.
+use Rattle.std.specs.Prelude.{Option, Some, None}
+use Rattle.std.proofs.lemmas.Option.{none-some}
 use Prim.Native.Nat.{ℕ, ◌≤◌, ◌<◌}
-use mathlib.Core.Path.{◌≡◌, refl, sym, ◌∙◌}
+use mathlib.Core.Path.{◌≡◌, refl, sym, ap, ◌∙◌}
 use mathlib.Core.Bool.{Bool, true, false, ◌&&◌, ◌||◌, false≢true}
 use mathlib.Core.List.{List}
 use mathlib.Core.Option.{none}
@@ -14,39 +16,41 @@ use Rattle.theorems.specs.Step.{Stepped, Gluing}
 use Rattle.theorems.proofs.Lexing.Gluing.{glue_start}
 use Rattle.theorems.proofs.Lexing.Glues.{every, settled_none}
 use Rattle.theorems.proofs.Lexing.PreAt.{glue_settled}
-use Rattle.pre.specs.Scan.{first, pre_step, pre_next}
+use Rattle.syntax_kind.specs.Number.{number}
+use Rattle.syntax_kind.specs.declared.kind.SyntaxKind.{SyntaxKind}
+use Rattle.syntax_kind.specs.declared.kind.SyntaxKind.TheVariants as kind
+use Rattle.syntax_kind.proofs.Numbers.{other_kind}
+use Rattle.pre.specs.Scan.{first, Step, pre_step, pre_next, stepped}
 use Rattle.pre.specs.declared.PreLexer.{PreLexer}
 use Rattle.pre.specs.declared.PreStep.{PreStep}
-use Rattle.pre.specs.declared.PreNext.{PreNext}
-use Rattle.pre.specs.declared.PreNext.TheVariants as pre
 use Rattle.glue.specs.declared.Lexer.{Lexer}
-use Rattle.glue.specs.declared.Step.{Step}
-use Rattle.glue.specs.declared.Next.TheVariants.{Token, End}
+use Rattle.glue.specs.declared.Step as glue
 use Rattle.glue.specs.Next.{settled, Operator, Nexts}
 use Rattle.glue.proofs.Periods.{pre_from}
 
 -- The pre-lexer answers a token within the source, or the end.
-record Answered (l : PreLexer) (s : List ℕ) (r : PreStep) : Type 0 where
+record Answered (l : PreLexer) (s : List ℕ) (r : Step) : Type 0 where
   inside : l.at < length s
   is : r ≡ pre_step l s
 
-module _ (l : PreLexer) (s : List ℕ) (o : PreNext) (e : o ≡ pre_next l s) where
-  answered : (r : PreStep) → o ≡ pre.Token r → Answered l s r
+some_is : (x y : Step) → Some x ≡ Some y → x ≡ y
+some_is x y e = cc
+
+module _ (l : PreLexer) (s : List ℕ) (o : Option PreStep) (e : stepped o ≡ pre_next l s) where
+  answered : (r : PreStep) → o ≡ Some r → Answered l s (record { kind = number r.kind; next = r.next })
   unfolding pre_next
   answered r z = go (ltb l.at (length s)) refl
     where
-      go : (t : Bool) → ltb l.at (length s) ≡ t → Answered l s r
-      go true h =
-          let m : pre.Token r ≡ pre.Token (pre_step l s) = sym z ∙ e ∙ rw h in
-          record { inside = ltb-true _ _ h; is = cc }
-      go false h = absurd (let m : pre.Token r ≡ pre.End = sym z ∙ e ∙ rw h in let w : ◌≡◌ {A = ℕ} 0 1 = cc in omega arith)
+      go : (t : Bool) → ltb l.at (length s) ≡ t → Answered l s (record { kind = number r.kind; next = r.next })
+      go true h = record { inside = ltb-true _ _ h; is = some_is _ _ (ap stepped (sym z) ∙ e ∙ rw h) }
+      go false h = absurd (none-some _ (sym (ap stepped (sym z) ∙ e ∙ rw h)))
 
-  ended : o ≡ pre.End → length s ≤ l.at
+  ended : o ≡ None → length s ≤ l.at
   unfolding pre_next
   ended z = go (ltb l.at (length s)) refl
     where
       go : (t : Bool) → ltb l.at (length s) ≡ t → length s ≤ l.at
-      go true h = absurd (let m : pre.End ≡ pre.Token (pre_step l s) = sym z ∙ e ∙ rw h in let w : ◌≡◌ {A = ℕ} 0 1 = cc in omega arith)
+      go true h = absurd (none-some _ (ap stepped (sym z) ∙ e ∙ rw h))
       go false h = ltb-false _ _ h
 
 -- Nothing glues to the kinds before PERIOD, nor to those between HASH and LEFT_OP.
@@ -62,32 +66,31 @@ settled_by k e x = go (ltb k Kind.PERIOD) (ltb Kind.HASH k) (ltb k Kind.LEFT_OP)
     go false true false a b c e = absurd (false≢true e)
     go false false v a b c e = absurd (false≢true e)
 
-module _ (s : List ℕ) (l : Lexer) (o : PreNext) (e : o ≡ pre_next l.input s) where
+module _ (s : List ℕ) (l : Lexer) (o : Option PreStep) (e : stepped o ≡ pre_next l.input s) where
   -- At the end of the source the pre-lexer has none, and so the lexer.
-  pub step_end : o ≡ pre.End → Nexts s l End
+  pub step_end : o ≡ None → Nexts s l None
   unfolding Nexts
   step_end z = ended l.input s o e z
 
-  module _ (r : PreStep) (z : o ≡ pre.Token r) where
+  module _ (r : PreStep) (z : o ≡ Some r) where
     -- Else its pre-token begins a token,
-    began : Gluing s l.input.at l.input.angle r.kind r.next.at r.next.angle
+    began : Gluing s l.input.at l.input.angle (number r.kind) r.next.at r.next.angle
     unfolding pre_step
     began =
-        let a : Answered l.input s r = answered l.input s o e r z in
+        let a : Answered l.input s (record { kind = number r.kind; next = r.next }) = answered l.input s o e r z in
         glue_start _ _ _ _ _ _ (rw a.is (pre_from s l.input.at l.input.angle (first l.input s) a.inside refl))
 
     -- which is whole, or a PERIOD, or an operator that may go on.
-    pub step_settled : (t : Bool) → t ≡ settled r.kind → t ≡ true → Nexts s l (Token r.kind (record { input = r.next }))
-    unfolding Nexts
-    step_settled t e z = glue_settled _ _ _ _ _ _ began (settled_by r.kind (sym e ∙ z))
+    pub step_settled : (t : Bool) → t ≡ settled (number r.kind) → t ≡ true → Stepped s l.input.at l.input.angle (number r.kind) r.next.at r.next.angle
+    step_settled t e z = glue_settled _ _ _ _ _ _ began (settled_by (number r.kind) (sym e ∙ z))
 
-    pub step_period : r.kind ≡ Kind.PERIOD → Gluing s l.input.at l.input.angle Kind.PERIOD r.next.at r.next.angle
-    step_period z = rw z at began
+    pub step_period : r.kind ≡ kind.PERIOD → Gluing s l.input.at l.input.angle Kind.PERIOD r.next.at r.next.angle
+    step_period z = rw (ap number z) at began
 
-    pub step_operator : (r.kind ≡ Kind.PERIOD → ⊥) → Operator s l.input.at l.input.angle r.kind r.next.at r.next.angle
-    step_operator n = record { gluing = began; other = n }
+    pub step_operator : (r.kind ≡ kind.PERIOD → ⊥) → Operator s l.input.at l.input.angle (number r.kind) r.next.at r.next.angle
+    step_operator n = record { gluing = began; other = other_kind r.kind kind.PERIOD n }
 
-pub step_stepped : (s : List ℕ) (l : Lexer) (r : Step)
-    → Stepped s l.input.at l.input.angle r.kind r.next.input.at r.next.input.angle → Nexts s l (Token r.kind r.next)
+pub step_stepped : (s : List ℕ) (l : Lexer) (r : glue.Step)
+    → Stepped s l.input.at l.input.angle (number r.kind) r.next.input.at r.next.input.angle → Nexts s l (Some r)
 unfolding Nexts
 step_stepped s l r p = p

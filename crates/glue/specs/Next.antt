@@ -1,17 +1,17 @@
 -- What a step of the lexer promises.
-use Rattle.std.specs.Prelude.{ℕ, ◌≤◌, ◌≡◌, Bool, ◌&&◌, ◌||◌, List, eqb, ltb, length, if◌then◌else◌}
+use Rattle.std.specs.Prelude.{ℕ, ◌≤◌, ◌≡◌, Bool, ◌&&◌, ◌||◌, List, eqb, ltb, length, if◌then◌else◌, Option, Some, None}
 use Rattle.definition.specs.Text.{byte}
 use Rattle.definition.specs.SyntaxKind.{Kind}
 use Rattle.theorems.specs.Step.{Gluing, Stepped, glued_kind}
+use Rattle.syntax_kind.specs.Number.{number}
 use Rattle.pre.specs.Table.{class_number}
 use Rattle.glue.specs.declared.Lexer.{Lexer}
-use Rattle.glue.specs.declared.Next.{Next}
-use Rattle.glue.specs.declared.Next.TheVariants.{Token, End}
+use Rattle.glue.specs.declared.Step.{Step}
 
 -- What the step from l promises: the first token of what l stands for, with what stands for the others, or the end of the source.
-unfoldable pub Nexts : List ℕ → Lexer → Next → Type 0
-Nexts s l (Token kind next) = Stepped s l.input.at l.input.angle kind next.input.at next.input.angle
-Nexts s l End = length s ≤ l.input.at
+unfoldable pub Nexts : List ℕ → Lexer → Option Step → Type 0
+Nexts s l (Some t) = Stepped s l.input.at l.input.angle (number t.kind) t.next.input.at t.next.input.angle
+Nexts s l None = length s ≤ l.input.at
 
 -- Whether nothing glues to a token of this kind.
 unfoldable pub settled : ℕ → Bool

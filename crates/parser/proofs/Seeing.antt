@@ -1,5 +1,5 @@
 -- What is seen is what is left where the lexer stands.
-use Rattle.std.specs.Prelude.{if◌then◌else◌}
+use Rattle.std.specs.Prelude.{if◌then◌else◌, Option, Some, None}
 use Prim.Native.Nat.{ℕ, ◌≤◌}
 use mathlib.Core.Path.{◌≡◌, refl, sym, ◌∙◌}
 use mathlib.Core.Bool.{Bool, true, false}
@@ -15,9 +15,8 @@ use Rattle.definition.specs.Calls.{longest_source}
 use Rattle.theorems.specs.Step.{Stepped}
 use Rattle.theorems.specs.LeavesFrom.{leaf_kind}
 use Rattle.theorems.proofs.LeavesFrom.{leaves_step, leaves_over, stop_between}
-use Rattle.glue.specs.declared.Lexer.{Lexer}
-use Rattle.glue.specs.declared.Next.{Next}
-use Rattle.glue.specs.declared.Next.TheVariants.{Token, End}
+use Rattle.syntax_kind.specs.Number.{number}
+use Rattle.glue.specs.declared.Step.{Step}
 use Rattle.glue.specs.Next.{Nexts}
 use Rattle.parser.specs.Rest.{unread, Held, Sees}
 
@@ -42,18 +41,18 @@ seen_step src at f k e g u j h =
       over = λ w. absurd (eqb-false j 0 z w);
     }
 
-module _ (src : List ℕ) (at : ℕ) (angle : Bool) (x : Next) (y : Nexts src (record { input = record { at = at; angle = angle } }) x) where
-  module _ (kind : ℕ) (next : Lexer) (q : x ≡ Token kind next) where
-    stepped : Stepped src at angle kind next.input.at next.input.angle
+module _ (src : List ℕ) (at : ℕ) (angle : Bool) (x : Option Step) (y : Nexts src (record { input = record { at = at; angle = angle } }) x) where
+  module _ (t : Step) (q : x ≡ Some t) where
+    stepped : Stepped src at angle (number t.kind) t.next.input.at t.next.input.angle
     unfolding Nexts
     stepped = rw q at y
 
-    pub end_fits : length src ≤ longest_source → Fits w32 next.input.at
+    pub end_fits : length src ≤ longest_source → Fits w32 t.next.input.at
     end_fits h = omega (arith, stepped.within)
 
-    pub seen_token : (k : ℕ) → k ≡ leaf_kind kind → Sees src at angle (record { kind = k; start = at; end = next.input.at; angle = next.input.angle })
+    pub seen_token : (k : ℕ) → k ≡ leaf_kind (number t.kind) → Sees src at angle (record { kind = k; start = at; end = t.next.input.at; angle = t.next.input.angle })
     seen_token k e = seen_step src at angle _ _ _ stepped k e
 
-  pub seen_end : x ≡ End → Sees src at angle (record { kind = 0; start = at; end = at; angle = angle })
+  pub seen_end : x ≡ None → Sees src at angle (record { kind = 0; start = at; end = at; angle = angle })
   unfolding Nexts unread Held
   seen_end q = let o : length src ≤ at = rw q at y in record { rest = sym (leaves_over src at angle o); held = λ h. absurd (h refl); starts = refl; over = λ w. (refl, o) }

@@ -8,13 +8,16 @@ ghost use Rattle.definition.specs.Calls.{longest_source};
 ghost use Rattle.definition.specs.Parser as reader;
 ghost use Rattle.theorems.specs.BodyRows.{ends};
 ghost use Rattle.theorems.specs.LeavesFrom.{leaf_kind as LeavesFrom·leaf_kind};
+ghost use Rattle.syntax_kind.specs.Number.{number};
 ghost use Rattle.pre.specs.Table.{class_table};
 ghost use Rattle.tree.specs.Machine.{sheet, leafed};
 ghost use Rattle.parser.specs.Rest.{run_of, Sees, trivial, inlined, Reading, Takes};
 
-use glue::{Lexer, Next};
+use glue::Lexer;
 use pre::PreLexer;
-use syntax_kind::kind::Kind;
+use pre::class::Classes;
+use syntax_kind::kind::SyntaxKind;
+use syntax_kind::number::Kind;
 use tree::Pen;
 
 // The leaf that is seen: its range, whether an angle string is expected behind it, and its kind, 0 at the end of the source. Start and end are not
@@ -68,18 +71,18 @@ pub fn run_of(x: Seen, p: Pen) -> Run
     Run { seen, pen }
 }
 
-// The kind of a token as a leaf: a continuation becomes a WS leaf.
-fn leaf_kind(kind: u8) -> u8
-    ensures { result ≡ LeavesFrom·leaf_kind kind }
+// The number of a token's kind as a leaf: a continuation becomes a WS leaf.
+fn leaf_kind(kind: SyntaxKind) -> u8
+    ensures { result ≡ LeavesFrom·leaf_kind (number kind) }
 {
-    if kind == Kind::LINECONT {
-        return Kind::WS;
+    match kind {
+        SyntaxKind::LINECONT => Kind::WS,
+        _ => kind.into(),
     }
-    kind
 }
 
 // Sees the first leaf from a place on.
-pub fn see(src: &[u8], classes: &[u8; 256], at: u32, angle: bool) -> Seen
+pub fn see(src: &[u8], classes: &Classes, at: u32, angle: bool) -> Seen
     requires { (classes.now ≡ class_table) × (length src.now ≤ longest_source) }
     ensures { Sees src.now at angle result }
 {
@@ -90,17 +93,16 @@ pub fn see(src: &[u8], classes: &[u8; 256], at: u32, angle: bool) -> Seen
         },
     };
     match lexer.next(src, classes) {
-        Next::Token { kind, next } => {
-            let input = next.input;
-            let end = input.at;
+        Some(t) => {
+            let input = t.next.input;
             Seen {
-                kind: leaf_kind(kind),
+                kind: leaf_kind(t.kind),
                 start: at,
-                end: end as u32,
+                end: input.at as u32,
                 angle: input.angle,
             }
         }
-        Next::End => Seen {
+        None => Seen {
             kind: 0,
             start: at,
             end: at,
@@ -124,7 +126,7 @@ pub fn leaf(table: &mut [u32], pen: Pen, x: Seen) -> Pen
 }
 
 // Takes the leaf that is seen, if there is one, and sees the next.
-pub fn bump(src: &[u8], classes: &[u8; 256], table: &mut [u32], run: Run) -> Run
+pub fn bump(src: &[u8], classes: &Classes, table: &mut [u32], run: Run) -> Run
     requires { Reading src.now classes.now run.seen }
     ensures { Takes src.now reader.bump table.old run table.new result }
 {
@@ -140,36 +142,26 @@ pub fn bump(src: &[u8], classes: &[u8; 256], table: &mut [u32], run: Run) -> Run
 pub fn is_trivia(kind: u8) -> bool
     ensures { result ≡ trivial kind }
 {
-    if kind == Kind::WS {
-        return true;
-    }
-    kind == Kind::COMMENT
+    kind == Kind::WS || kind == Kind::COMMENT
 }
 
 // Takes the trivia that comes next.
-pub fn skip_trivia(src: &[u8], classes: &[u8; 256], table: &mut [u32], run: Run) -> Run
+pub fn skip_trivia(src: &[u8], classes: &Classes, table: &mut [u32], run: Run) -> Run
     requires { Reading src.now classes.now run.seen }
     ensures { Takes src.now reader.skip_trivia table.old run table.new result }
 {
     let mut held = run;
-    loop {
-        let seen = held.seen;
-        if is_trivia(seen.kind) {
-            held = bump(src, classes, table, held);
-        } else {
-            return held;
-        }
+    while is_trivia(held.seen.kind) {
+        held = bump(src, classes, table, held);
     }
+    held
 }
 
 // Whether a line ends at a leaf of this kind: at a NEWLINE, or where there is none.
 pub fn ends_row(kind: u8) -> bool
     ensures { result ≡ ends kind }
 {
-    if kind == 0 {
-        return true;
-    }
-    kind == Kind::NEWLINE
+    kind == 0 || kind == Kind::NEWLINE
 }
 
 // Whether a leaf of this kind is one of the line.
@@ -180,17 +172,13 @@ fn is_inline(kind: u8) -> bool
 }
 
 // Takes the rest of the line, up to its NEWLINE or the end.
-pub fn skip_inline(src: &[u8], classes: &[u8; 256], table: &mut [u32], run: Run) -> Run
+pub fn skip_inline(src: &[u8], classes: &Classes, table: &mut [u32], run: Run) -> Run
     requires { Reading src.now classes.now run.seen }
     ensures { Takes src.now (reader.skip reader.inline) table.old run table.new result }
 {
     let mut held = run;
-    loop {
-        let seen = held.seen;
-        if is_inline(seen.kind) {
-            held = bump(src, classes, table, held);
-        } else {
-            return held;
-        }
+    while is_inline(held.seen.kind) {
+        held = bump(src, classes, table, held);
     }
+    held
 }

@@ -8,6 +8,7 @@ ghost use Rattle.parser.specs.Rest.{Reading, trivial, unread};
 ghost use Rattle.parser.specs.Passed.{row_of, before, Passes, Behind};
 
 use crate::Seen;
+use pre::class::Classes;
 use tree::Pen;
 
 // A row of trivia: its first leaf and the leaf behind it. It is empty if both start at one place.
@@ -27,7 +28,7 @@ fn row_of(x: Seen, y: Seen) -> Trivia
 }
 
 // Passes over the trivia from a leaf on that is trivia.
-fn pass(src: &[u8], classes: &[u8; 256], x: Seen) -> Trivia
+fn pass(src: &[u8], classes: &Classes, x: Seen) -> Trivia
     requires { (Reading src.now classes.now x) × (trivial x.kind ≡ true) }
     ensures { Passes src.now x result }
 {
@@ -39,7 +40,7 @@ fn pass(src: &[u8], classes: &[u8; 256], x: Seen) -> Trivia
 }
 
 // Passes over the trivia from a leaf on that is seen.
-pub fn buffer_trivia(src: &[u8], classes: &[u8; 256], x: Seen) -> Trivia
+pub fn buffer_trivia(src: &[u8], classes: &Classes, x: Seen) -> Trivia
     requires { Reading src.now classes.now x }
     ensures { Passes src.now x result }
 {
@@ -50,7 +51,7 @@ pub fn buffer_trivia(src: &[u8], classes: &[u8; 256], x: Seen) -> Trivia
 }
 
 // Passes over the trivia from a place on.
-pub fn behind(src: &[u8], classes: &[u8; 256], at: u32, angle: bool) -> Trivia
+pub fn behind(src: &[u8], classes: &Classes, at: u32, angle: bool) -> Trivia
     requires { (classes.now ≡ class_table) × (length src.now ≤ longest_source) }
     ensures { Behind src.now at angle result }
 {
@@ -62,7 +63,7 @@ pub fn behind(src: &[u8], classes: &[u8; 256], at: u32, angle: bool) -> Trivia
 // starts at `stop` is not.
 pub fn eat_trivia(
     src: &[u8],
-    classes: &[u8; 256],
+    classes: &Classes,
     table: &mut [u32],
     pen: Pen,
     first: Seen,

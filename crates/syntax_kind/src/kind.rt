@@ -181,6 +181,15 @@ pub enum SyntaxKind {
     ROOT = 86,
 }
 
+// The number of a kind.
+impl From<SyntaxKind> for u8 {
+    ghost from_gives = { λ k n. n ≡ number k };
+
+    fn from(k: SyntaxKind) -> u8 {
+        k as u8
+    }
+}
+
 // The number of a kind, as it stands in a table.
 impl From<SyntaxKind> for u32 {
     ghost from_gives = { λ k n. n ≡ number k };

@@ -2,5 +2,6 @@
 #![tactic(auto)]
 
 pub mod kind;
+pub mod number;
 pub mod operators;
 pub mod paste;

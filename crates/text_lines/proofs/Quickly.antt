@@ -1,13 +1,13 @@
 -- Tokens that are seen at once: words, numbers, blanks, and single characters to which nothing glues.
 use Prim.Native.Nat.{ℕ, ◌+◌, ◌-◌, ◌≤◌, ◌<◌}
 use mathlib.Core.Path.{◌≡◌, refl, sym, ap, ◌∙◌}
-use mathlib.Core.Bool.{Bool, true, false, not, false≢true}
+use mathlib.Core.Bool.{Bool, true, false, ◌&&◌, ◌||◌, false≢true, and-eq-true_iff}
 use mathlib.Core.List.{List}
 use native.Mathlib.Omega.{arith}
 use native.Mathlib.Decide.{dec_lt}
 use lib.Dec.{eqb, leb}
 use lib.ListN.{length, take, drop, get_or}
-use borrow.Author.Tests.{eqb-false, leb-true, eq-eqb, not-true}
+use borrow.Author.Tests.{eqb-true, leb-true}
 use Rattle.definition.specs.Text.{ascii, byte}
 use Rattle.definition.specs.SyntaxKind.{Kind}
 use Rattle.definition.specs.Newline.{blank, class}
@@ -17,14 +17,18 @@ use Rattle.theorems.specs.Step.{Stepped, PreStepped, Gluing}
 use Rattle.theorems.proofs.Lexing.Glues.{every, Settled, settled_none, other_none, none_kind}
 use Rattle.theorems.proofs.Lexing.Gluing.{glue_start}
 use Rattle.theorems.proofs.Lexing.PreAt.{glue_over, glue_settled}
-use Rattle.theorems.proofs.Lexing.Open.{Open, In, word, number, blanks_only, Kinds, open_kind, quiet, quiet_settled, quiet_no_linecont, open_quiet}
+use Rattle.theorems.proofs.Lexing.Open.{Open, In, word, number as numeral, blanks_only, Kinds, open_kind, quiet, quiet_settled, quiet_no_linecont, open_quiet}
+use Rattle.syntax_kind.specs.Number.{number}
+use Rattle.syntax_kind.specs.declared.kind.SyntaxKind.{SyntaxKind}
+use Rattle.syntax_kind.specs.declared.kind.SyntaxKind.TheVariants as kind
+use Rattle.syntax_kind.proofs.Numbers.{other_kind}
 use Rattle.pre.specs.Table.{ClassNumber, punct, class_number, class_number_of}
-use Rattle.pre.specs.Scan.{from}
-use Rattle.pre.specs.declared.token.Token.{Token}
-use Rattle.pre.proofs.Classes.{Closed, Within, says, letter_within, digit_within, closed_word, closed_blank, closed_punct}
+use Rattle.pre.specs.Scan.{Token, told, from}
+use Rattle.pre.specs.declared.token.Token as code
+use Rattle.pre.proofs.Classes.{Closed, Within, letter_is, digit_is, blank_is, letter_within, digit_within, class_kind, closed_letter, closed_digit, closed_blank, closed_punct}
 use Rattle.pre.proofs.States.{Plain, begin_letter, begin_digit, begin_blank, begin_punct, flag_kept}
 use Rattle.pre.proofs.Froms.{shut, from_fits, Ends}
-use Rattle.glue.proofs.Begins.{either, zero_by, wide_error}
+use Rattle.glue.proofs.Begins.{either, Mark, entry, entry_not, zero_by, wide_error}
 use Rattle.glue.proofs.Peeks.{named_other, single_at, peek_none}
 use Rattle.glue.proofs.Periods.{pre_from, period_other}
 use Rattle.text_lines.specs.Lines.{Alone, Single, Quick}
@@ -42,45 +46,54 @@ settled_single low high c s a b l h = record {
   };
 }
 
-module _ (c : ℕ) where
-  pub single_bracket : Kind.LBRACKET ≤ c → c ≤ Kind.RBRACE → Single c
-  unfolding every
-  single_bracket l h = settled_single Kind.LBRACKET Kind.RBRACE c refl (omega arith) (omega arith) l h
+-- The kinds of the characters that are tokens alone.
+abbrev pub singles : ℕ → Bool
+singles c = (leb Kind.LBRACKET c && leb c Kind.RBRACE) || (eqb c Kind.TILDE || (leb Kind.COLON c && leb c Kind.QUESTION))
 
-  pub single_tilde : c ≡ Kind.TILDE → Single c
-  unfolding every
-  single_tilde e = settled_single Kind.TILDE Kind.TILDE c refl (omega arith) (omega arith) (omega arith) (omega arith)
+pub single_of : (c : ℕ) → singles c ≡ true → Single c
+unfolding every
+single_of c = go (leb Kind.LBRACKET c && leb c Kind.RBRACE) (eqb c Kind.TILDE) refl refl
+  where
+    go : (t u : Bool) → (leb Kind.LBRACKET c && leb c Kind.RBRACE) ≡ t → eqb c Kind.TILDE ≡ u → (t || (u || (leb Kind.COLON c && leb c Kind.QUESTION))) ≡ true → Single c
+    go true u p q e =
+        let h = (and-eq-true_iff (leb Kind.LBRACKET c) (leb c Kind.RBRACE)).0 p in
+        settled_single Kind.LBRACKET Kind.RBRACE c refl (omega arith) (omega arith) (leb-true _ _ h.0) (leb-true _ _ h.1)
+    go false true p q e =
+        let z = eqb-true c Kind.TILDE q in
+        settled_single Kind.TILDE Kind.TILDE c refl (omega arith) (omega arith) (omega arith) (omega arith)
+    go false false p q e =
+        let h = (and-eq-true_iff (leb Kind.COLON c) (leb c Kind.QUESTION)).0 e in
+        settled_single Kind.COLON Kind.QUESTION c refl (omega arith) (omega arith) (leb-true _ _ h.0) (leb-true _ _ h.1)
 
-  pub single_colon : Kind.COLON ≤ c → leb c Kind.QUESTION ≡ true → Single c
-  unfolding every
-  single_colon l e = settled_single Kind.COLON Kind.QUESTION c refl (omega arith) (omega arith) l (leb-true c Kind.QUESTION e)
+-- An operator, or a PERIOD, by the kind of what follows.
+module _ (c d : ℕ) where
+  pub alone_period : c ≡ Kind.PERIOD → (d ≡ ClassNumber.DIGIT → ⊥) → Alone c d
+  alone_period z n = record {
+    low = omega arith;
+    high = omega arith;
+    no_slash = λ y. omega arith;
+    no_less = λ y. omega arith;
+    no_number = λ y e. n e;
+    no_glue = λ m. absurd (m z);
+  }
 
-  module _ (d : ℕ) where
-    pub alone_period : c ≡ Kind.PERIOD → not (eqb d ClassNumber.DIGIT) ≡ true → Alone c d
-    alone_period z n = record {
-      low = omega arith;
-      high = omega arith;
-      no_slash = λ y. omega arith;
-      no_less = λ y. omega arith;
-      no_number = λ y e. false≢true (ap not (sym (eq-eqb d ClassNumber.DIGIT e)) ∙ n);
-      no_glue = λ m. absurd (m z);
-    }
-
-    pub alone_operator : Kind.PERIOD ≤ c → c ≤ Kind.HASH → (c ≡ Kind.PERIOD → ⊥) → (c ≡ Kind.SLASH → ⊥) → (c ≡ Kind.LANGLE → ⊥)
-        → (d ≡ Kind.EQUAL → ⊥) → not (eqb d c) ≡ true → Alone c d
-    alone_operator l h n s a e z = record {
-      low = l;
-      high = h;
-      no_slash = s;
-      no_less = a;
-      no_number = λ y. absurd (n y);
-      no_glue = λ y. none_kind c d (other_none c d e (λ x. eqb-false d c (not-true _ z) (sym x)) (λ x w. n x));
-    }
+  pub alone_operator : Kind.PERIOD < c → c ≤ Kind.HASH → (c ≡ Kind.SLASH → ⊥) → (c ≡ Kind.LANGLE → ⊥) → (d ≡ Kind.EQUAL → ⊥) → (d ≡ c → ⊥) → Alone c d
+  alone_operator l h s a e z = record {
+    low = omega arith;
+    high = h;
+    no_slash = s;
+    no_less = a;
+    no_number = λ y. absurd (omega arith);
+    no_glue = λ y. none_kind c d (other_none c d e (λ x. z (sym x)) (λ x w. y x));
+  }
 
 -- A character that is a token alone.
-module _ (s : List ℕ) (at : ℕ) (h : at < length s) (c : ℕ) (y : c ≡ class_number (get_or s at 0)) where
+module _ (s : List ℕ) (at : ℕ) (h : at < length s) (k : SyntaxKind) (y : number k ≡ class_number (get_or s at 0)) where
   abbrev b : ℕ
   b = get_or s at 0
+
+  abbrev c : ℕ
+  c = number k
 
   module _ (d : ℕ) (a : Alone c d) where
     no_error : (x : ℕ) → class_number x ≡ Kind.ERROR → b ≡ x → ⊥
@@ -96,17 +109,34 @@ module _ (s : List ℕ) (at : ℕ) (h : at < length s) (c : ℕ) (y : c ≡ clas
       no_backslash = no_error (byte "\\") refl;
     }
 
-    low : Kind.PERIOD ≤ class_number b
-    low = rw (← y) a.low
+    mark : Mark b
+    mark = record {
+      no_letter = λ z. omega (arith, y, a.low);
+      no_digit = λ z. omega (arith, y, a.low);
+      no_newline = λ z. omega (arith, y, a.high);
+      no_blank = λ z. omega (arith, y, a.high);
+    }
+
+    no_letter : k ≡ kind.IDENT_KW → ⊥
+    no_letter z = mark.no_letter (sym y ∙ ap number z)
+
+    no_digit : k ≡ kind.DIGITS → ⊥
+    no_digit z = mark.no_digit (sym y ∙ ap number z)
+
+    no_newline : k ≡ kind.NEWLINE → ⊥
+    no_newline z = mark.no_newline (sym y ∙ ap number z)
+
+    no_blank : k ≡ kind.WS → ⊥
+    no_blank z = mark.no_blank (sym y ∙ ap number z)
 
     narrow : b < 192
-    narrow = elim (dec_lt b 192) [ yes u ↦ u | no u ↦ absurd (omega (arith, wide_error b (omega arith) low, y, a.high)) ]
+    narrow = elim (dec_lt b 192) [ yes u ↦ u | no u ↦ absurd (omega (arith, wide_error b (omega arith) mark, y, a.high)) ]
 
     pre_alone : (f : Bool) → PreStepped s at f c (at + 1) f
     pre_alone f =
-        let q : begin f b ≡ done (class_number b) = begin_punct b (class_number b) f refl low plain ∙ ap done (sym ((says b (class_number b) refl).punct_is low)) in
-        let k : flag f b ≡ f = flag_kept b (class_number b) f refl (λ z. omega (arith, low)) plain.no_quote plain.no_less in
-        rw (← y) at (single_at s at f h q low k (closed_punct b (class_number b) refl low narrow))
+        let q : begin f b ≡ done (class_number b) = begin_punct b k f y no_letter no_digit no_newline no_blank plain ∙ ap done y in
+        let w : flag f b ≡ f = flag_kept b k f y no_newline plain.no_quote plain.no_less in
+        rw (← y) at (single_at s at f h q mark.no_letter w (closed_punct b k y no_newline narrow))
 
     stepped_alone : d ≡ class_number (get_or s (at + 1) 0) → (f : Bool) → Stepped s at f c (at + 1) f
     stepped_alone e f = elim (dec_lt (at + 1) (length s)) [
@@ -119,67 +149,71 @@ module _ (s : List ℕ) (at : ℕ) (h : at < length s) (c : ℕ) (y : c ≡ clas
         gluing : Gluing s at f c (at + 1) f
         gluing = glue_start s at f c (at + 1) f (pre_alone f)
 
-    quick_alone : d ≡ class_number (get_or s (at + 1) 0) → Quick s at (record { kind = c; end = at + 1 })
-    quick_alone e = record { step = λ n f. stepped_alone e f; no_linecont = λ z. omega (arith, a.high) }
+    quick_alone : d ≡ class_number (get_or s (at + 1) 0) → Quick s at (record { kind = k; end = at + 1 })
+    quick_alone e = record { step = λ f. stepped_alone e f; no_linecont = λ z. omega (arith, a.high) }
 
-  pub quick_single : (r : Bool) → (r ≡ true → Single c) → r ≡ true → Quick s at (record { kind = c; end = at + 1 })
-  quick_single r k e = quick_alone (class_number (get_or s (at + 1) 0)) ((k e).alone (class_number (get_or s (at + 1) 0))) refl
+  pub quick_single : (r : Bool) → (r ≡ true → Single (number k)) → r ≡ true → Quick s at (record { kind = k; end = at + 1 })
+  quick_single r w e = quick_alone (class_number (get_or s (at + 1) 0)) ((w e).alone (class_number (get_or s (at + 1) 0))) refl
 
-  pub quick_unglued : (x d : ℕ) (r : Bool) → x ≡ get_or s (at + 1) 0 → d ≡ class_number x → (r ≡ true → Alone c d) → r ≡ true → Quick s at (record { kind = c; end = at + 1 })
-  quick_unglued x d r p q k e = quick_alone d (k e) (q ∙ ap class_number p)
-
-pub quick_none : (s : List ℕ) (at : ℕ) → Quick s at (record { kind = 0; end = at })
-quick_none s at = record { step = λ n. absurd (n refl); no_linecont = λ z. omega arith }
+  pub quick_unglued : (x : ℕ) (d : SyntaxKind) (r : Bool) → x ≡ get_or s (at + 1) 0 → number d ≡ class_number x → (r ≡ true → Alone (number k) (number d)) → r ≡ true
+      → Quick s at (record { kind = k; end = at + 1 })
+  quick_unglued x d r p q w e = quick_alone (number d) (w e) (q ∙ ap class_number p)
 
 -- A word, a number, blanks: q is the state behind the first byte.
-module _ (s : List ℕ) (at : ℕ) (h : at < length s) (c : ℕ) (y : c ≡ class_number (get_or s at 0)) where
+module _ (s : List ℕ) (at : ℕ) (h : at < length s) (c : SyntaxKind) (y : number c ≡ class_number (get_or s at 0)) where
   abbrev first : ℕ
   first = get_or s at 0
 
   quick_by : {o : Open} (q : State) → In o q → Closed first → ((f : Bool) → begin f first ≡ q) → ((f : Bool) → flag f first ≡ f)
-      → (t : Token) → t ≡ from q 0 (at + 1) s → (k : ℕ) → k ≡ name_kind t.kind (take (t.end - at) (drop at s)) → Quick s at (record { kind = k; end = t.end })
+      → (t : code.Token) → told t ≡ from q 0 (at + 1) s → (k : SyntaxKind) → number k ≡ name_kind (number t.kind) (take (t.end - at) (drop at s))
+      → Quick s at (record { kind = k; end = t.end })
   unfolding from
   quick_by q o l g w t e k n =
-      let z : quiet k ≡ true = rw (n, e) (open_quiet q 0 (drop (at + 1) s) _ o) in
+      let z : quiet (number k) ≡ true = rw (n, ap (λ (r : Token). r.kind) e) (open_quiet q 0 (drop (at + 1) s) _ o) in
       record {
-        step = λ m f.
-            let x : t ≡ from (begin f first) first (at + 1) s = e ∙ rw (g f) (sym (shut q first (at + 1) s l)) in
-            let p : PreStepped s at f k t.end f = rw (← n, w f) at (pre_from s at f t h x) in
-            glue_settled s at f k t.end f (glue_start s at f k t.end f p) (quiet_settled k z);
-        no_linecont = quiet_no_linecont k z;
+        step = λ f.
+            let x : told t ≡ from (begin f first) first (at + 1) s = e ∙ rw (g f) (sym (shut q first (at + 1) s l)) in
+            let p : PreStepped s at f (number k) t.end f = rw (← n, w f) at (pre_from s at f (told t) h x) in
+            glue_settled s at f (number k) t.end f (glue_start s at f (number k) t.end f p) (quiet_settled (number k) z);
+        no_linecont = quiet_no_linecont (number k) z;
       }
 
   -- Only a word may be `defined`.
   quick_nameless : {o : Open} (q : State) → In o q → Kinds o (λ k. k ≡ Kind.IDENT_KW → ⊥) → Closed first → ((f : Bool) → begin f first ≡ q) → ((f : Bool) → flag f first ≡ f)
-      → (t : Token) → t ≡ from q 0 (at + 1) s → Quick s at t
+      → (t : code.Token) → told t ≡ from q 0 (at + 1) s → Quick s at t
   unfolding from
   quick_nameless q o d l g w t e =
-      quick_by q o l g w t e t.kind (sym (named_other t.kind _ (rw e (open_kind (λ k. k ≡ Kind.IDENT_KW → ⊥) d q 0 (drop (at + 1) s) o))))
+      quick_by q o l g w t e t.kind
+      (sym (named_other (number t.kind) _ (rw (ap (λ (r : Token). r.kind) e) (open_kind (λ k. k ≡ Kind.IDENT_KW → ⊥) d q 0 (drop (at + 1) s) o))))
 
-  pub quick_word : (t : Token) (k : ℕ) → c ≡ ClassNumber.LETTER → t ≡ from ident 0 (at + 1) s → k ≡ name_kind t.kind (take (t.end - at) (drop at s)) → Quick s at (record { kind = k; end = t.end })
+  no_newline_of : (k : SyntaxKind) → c ≡ k → (number k ≡ Kind.NEWLINE → ⊥) → c ≡ kind.NEWLINE → ⊥
+  no_newline_of k e n z = n (ap number (sym e ∙ z))
+
+  pub quick_word : (t : code.Token) (k : SyntaxKind) → c ≡ kind.IDENT_KW → told t ≡ from ident 0 (at + 1) s
+      → number k ≡ name_kind (number t.kind) (take (t.end - at) (drop at s)) → Quick s at (record { kind = k; end = t.end })
   quick_word t k z e n =
-      let v : Within (byte "A") (byte "z") first = letter_within first ((says first c y).letter_is z) in
-      quick_by ident word (closed_word first c y (omega arith)) (λ f. begin_letter first c f y z)
-      (λ f. flag_kept first c f y (λ x. omega arith) (λ x. omega arith) (λ x. omega arith)) t e k n
+      let v : Within (byte "A") (byte "z") first = letter_within first (letter_is first c y z) in
+      quick_by ident word (closed_letter first c y z) (λ f. begin_letter first c f y z)
+      (λ f. flag_kept first c f y (no_newline_of kind.IDENT_KW z (λ x. omega arith)) (λ x. omega arith) (λ x. omega arith)) t e k n
 
-  pub quick_number : (t : Token) → c ≡ ClassNumber.DIGIT → t ≡ from (digits false false) 0 (at + 1) s → Quick s at t
+  pub quick_number : (t : code.Token) → c ≡ kind.DIGITS → told t ≡ from (digits false false) 0 (at + 1) s → Quick s at t
   unfolding Kinds
   quick_number t z e =
-      let v : Within (byte "0") (byte "9") first = digit_within first ((says first c y).digit_is z) in
-      quick_nameless (digits false false) (number false false) (λ x. omega arith, λ x. omega arith) (closed_word first c y (omega arith)) (λ f. begin_digit first c f y z)
-      (λ f. flag_kept first c f y (λ x. omega arith) (λ x. omega arith) (λ x. omega arith)) t e
+      let v : Within (byte "0") (byte "9") first = digit_within first (digit_is first c y z) in
+      quick_nameless (digits false false) (numeral false false) (λ x. omega arith, λ x. omega arith) (closed_digit first c y z) (λ f. begin_digit first c f y z)
+      (λ f. flag_kept first c f y (no_newline_of kind.DIGITS z (λ x. omega arith)) (λ x. omega arith) (λ x. omega arith)) t e
 
-  pub quick_blanks : (t : Token) → c ≡ ClassNumber.WS → t ≡ from whitespace 0 (at + 1) s → Quick s at t
+  pub quick_blanks : (t : code.Token) → c ≡ kind.WS → told t ≡ from whitespace 0 (at + 1) s → Quick s at t
   unfolding Kinds
   quick_blanks t z e =
-      let b : blank first ≡ true = (says first c y).blank_is z in
+      let b : blank first ≡ true = blank_is first c y z in
       quick_nameless whitespace blanks_only (λ x. omega arith) (closed_blank first c y z) (λ f. begin_blank first c f y z)
-      (λ f. flag_kept first c f y (λ x. omega arith) (λ x. false≢true (rw x at b)) (λ x. false≢true (rw x at b))) t e
+      (λ f. flag_kept first c f y (no_newline_of kind.WS z (λ x. omega arith)) (λ x. false≢true (rw x at b)) (λ x. false≢true (rw x at b))) t e
 
 -- What `name` asks of a word.
-module _ (s : List ℕ) (at : ℕ) (t : Token) (h : at < length s) (e : t ≡ from ident 0 (at + 1) s) where
+module _ (s : List ℕ) (at : ℕ) (t : code.Token) (h : at < length s) (e : told t ≡ from ident 0 (at + 1) s) where
   ends : Ends (at + 1) (length s) t.end
-  ends = rw e (from_fits ident 0 (at + 1) s (omega arith))
+  ends = rw (ap (λ (r : Token). r.end) e) (from_fits ident 0 (at + 1) s (omega arith))
 
   pub word_after : at < t.end
   word_after = omega (arith, ends.low)

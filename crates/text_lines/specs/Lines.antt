@@ -5,6 +5,7 @@ use Rattle.definition.specs.Tree.{Leaf}
 use Rattle.theorems.specs.Step.{Stepped, glued_kind}
 use Rattle.theorems.specs.LeavesFrom.{leaves_from}
 use Rattle.theorems.specs.TextLines.{Text, Lines}
+use Rattle.syntax_kind.specs.Number.{number}
 use Rattle.pre.specs.Table.{ClassNumber}
 use Rattle.pre.specs.declared.token.Token.{Token}
 use Rattle.tree.specs.Machine.{sheet, leafs}
@@ -25,10 +26,10 @@ pub record Alone (c d : ℕ) : Type 0 where
 pub record Single (c : ℕ) : Type 0 where
   pub alone : (d : ℕ) → Alone c d
 
--- The token at a place, whatever the flag, which it keeps, unless its kind is 0. It is no continuation.
-pub record Quick (src : List ℕ) (at : ℕ) (r : Token) : Type 0 where
-  pub step : (r.kind ≡ 0 → ⊥) → (f : Bool) → Stepped src at f r.kind r.end f
-  pub no_linecont : r.kind ≡ Kind.LINECONT → ⊥
+-- The token at a place, whatever the flag, which it keeps. It is no continuation.
+pub record Quick (src : List ℕ) (at : ℕ) (t : Token) : Type 0 where
+  pub step : (f : Bool) → Stepped src at f (number t.kind) t.end f
+  pub no_linecont : number t.kind ≡ Kind.LINECONT → ⊥
 
 -- Neither HASH nor a comment of several lines nor a continuation begins with b, where x follows.
 pub record Begins (b x : ℕ) : Type 0 where

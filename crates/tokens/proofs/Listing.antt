@@ -1,4 +1,5 @@
 -- The loop that lists tokens: the numbers that it has laid, with those of the tokens behind its place, are the whole listing.
+use Rattle.std.specs.Prelude.{Option, Some, None}
 use Prim.Native.Nat.{ℕ, ◌-◌, ◌≤◌, ◌<◌}
 use native.Mathlib.Omega.{arith}
 use mathlib.Core.Path.{◌≡◌, refl, ap, sym, ◌∙◌}
@@ -15,11 +16,10 @@ use Rattle.definition.specs.Calls.{longest_source}
 use Rattle.theorems.specs.Step.{Stepped}
 use Rattle.table.specs.Row.{page, put, within, Laid}
 use Rattle.table.proofs.Rows.{laid_none, laid_more}
-use Rattle.glue.specs.declared.Lexer.{Lexer}
-use Rattle.pre.specs.declared.token.Token as pre
+use Rattle.syntax_kind.specs.Number.{number}
+use Rattle.pre.specs.declared.token.Token as code
 use Rattle.text_lines.specs.Lines.{Quick}
-use Rattle.glue.specs.declared.Next.{Next}
-use Rattle.glue.specs.declared.Next.TheVariants.{Token, End}
+use Rattle.glue.specs.declared.Step.{Step}
 use Rattle.glue.specs.Next.{Nexts}
 
 -- The numbers of the tokens from a place of the source on.
@@ -69,9 +69,9 @@ module _ (s t₀ t : List ℕ) (f : Bool) (i n : ℕ) (k : Listing s t₀ t f i 
         }
 
   -- It is seen at once,
-  module _ (x : pre.Token) (y : Quick s i x) (z : 0 < x.kind) where
-    quickly : Stepped s i f x.kind x.end f
-    quickly = y.step (λ e. omega arith) f
+  module _ (x : code.Token) (y : Quick s i x) where
+    quickly : Stepped s i f (number x.kind) x.end f
+    quickly = y.step f
 
     pub quick_nearer : length s - x.end < length s - i
     quick_nearer = nearer_by quickly
@@ -79,23 +79,23 @@ module _ (s t₀ t : List ℕ) (f : Bool) (i n : ℕ) (k : Listing s t₀ t f i 
     pub quick_fits : length s ≤ longest_source → Fits w32 x.end
     quick_fits = fits_by quickly
 
-    pub quick_another : (t₁ : List ℕ) (n₁ w : ℕ) → w ≡ x.kind → page t₁ n₁ ≡ put (w ∷ i ∷ x.end ∷ []) (page t n) → Listing s t₀ t₁ f x.end n₁
+    pub quick_another : (t₁ : List ℕ) (n₁ w : ℕ) → w ≡ number x.kind → page t₁ n₁ ≡ put (w ∷ i ∷ x.end ∷ []) (page t n) → Listing s t₀ t₁ f x.end n₁
     quick_another = another_by quickly
 
   -- or the lexer takes a step.
-  module _ (x : Next) (y : Nexts s (record { input = record { at = i; angle = f } }) x) (kind : ℕ) (next : Lexer) (q : x ≡ Token kind next) where
-    stepped : Stepped s i f kind next.input.at next.input.angle
+  module _ (x : Option Step) (y : Nexts s (record { input = record { at = i; angle = f } }) x) (r : Step) (q : x ≡ Some r) where
+    stepped : Stepped s i f (number r.kind) r.next.input.at r.next.input.angle
     unfolding Nexts
     stepped = rw q at y
 
-    pub nearer : length s - next.input.at < length s - i
+    pub nearer : length s - r.next.input.at < length s - i
     nearer = nearer_by stepped
 
-    pub offset_fits : length s ≤ longest_source → Fits w32 next.input.at
+    pub offset_fits : length s ≤ longest_source → Fits w32 r.next.input.at
     offset_fits = fits_by stepped
 
-    pub another : (t₁ : List ℕ) (n₁ w : ℕ) → w ≡ kind → page t₁ n₁ ≡ put (w ∷ i ∷ next.input.at ∷ []) (page t n)
-        → Listing s t₀ t₁ next.input.angle next.input.at n₁
+    pub another : (t₁ : List ℕ) (n₁ w : ℕ) → w ≡ number r.kind → page t₁ n₁ ≡ put (w ∷ i ∷ r.next.input.at ∷ []) (page t n)
+        → Listing s t₀ t₁ r.next.input.angle r.next.input.at n₁
     another = another_by stepped
 
   pub place_fits : length s ≤ longest_source → Fits w32 i
@@ -110,6 +110,6 @@ module _ (s t₀ t : List ℕ) (f : Bool) (i n : ℕ) (k : Listing s t₀ t f i 
       let e : k.done ≡ numbers_from false 0 s = sym (append-nil k.done) ∙ ap (λ l. k.done ++ l) (sym (none_behind f i s h)) ∙ k.split in
       rw (← e) k.laid
 
-  pub done : (x : Next) → Nexts s (record { input = record { at = i; angle = f } }) x → x ≡ End → Laid (numbers_from false 0 s) (page t₀ 0) (page t n)
+  pub done_at_end : (x : Option Step) → Nexts s (record { input = record { at = i; angle = f } }) x → x ≡ None → length s ≤ i
   unfolding Nexts
-  done x y q = ended (rw q at y)
+  done_at_end x y q = rw q at y
