@@ -1,4 +1,5 @@
 pub mod Ends
 pub mod Filling
-pub mod Finding
+pub mod Rising
 pub mod Quiets
+pub mod Outcomes

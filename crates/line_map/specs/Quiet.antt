@@ -1,7 +1,7 @@
 -- Bytes that begin no newline.
-use Rattle.std.specs.Prelude.{ℕ, ◌≡◌, Bool, true, not, ◌||◌, List, eqb}
+use Rattle.std.specs.Prelude.{ℕ, Bool, not, ◌||◌, List, eqb}
 use Rattle.definition.specs.Newline.{LF, CR}
-use Rattle.text.specs.Stretch.{Stretch}
+use Rattle.text.specs.Stretch.{Passing}
 
 -- A byte that begins no newline is quiet.
 unfoldable pub quiet : ℕ → Bool
@@ -9,8 +9,4 @@ quiet b = not (eqb b LF || eqb b CR)
 
 -- From one place up to another every byte is quiet.
 abbrev pub Quiet : List ℕ → ℕ → ℕ → Type 0
-Quiet = Stretch (λ b. quiet b ≡ true)
-
--- So many bytes are looked at together.
-abbrev pub step : ℕ
-step = 64
+Quiet = Passing quiet
