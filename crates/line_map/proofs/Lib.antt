@@ -2,4 +2,3 @@ pub mod Ends
 pub mod Filling
 pub mod Rising
 pub mod Quiets
-pub mod Outcomes

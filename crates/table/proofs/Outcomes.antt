@@ -1,75 +1,77 @@
 -- The outcome of a call on a source that fills one table: the source is refused, or the table is, or nothing is.
-use Prim.Native.Nat.{ℕ, suc, ◌≤◌, ◌<◌}
+use Rattle.std.specs.Prelude.{⊤, Result, Ok, Err, is_err, IfOk}
+use Prim.Native.Nat.{ℕ, ◌≤◌, ◌<◌}
 use native.Mathlib.Omega.{arith}
-use mathlib.Core.Path.{◌≡◌, refl, ap, ◌∙◌}
-use mathlib.Core.Bool.{false}
+use mathlib.Core.Path.{◌≡◌, refl, sym, ap, ◌∙◌}
+use mathlib.Core.Bool.{true, false, false≢true}
 use mathlib.Core.List.{List, [], ◌∷◌}
-use mir.Val.{Fits}
-use mir.Syntax.{w32}
 use lib.Dec.{eqb}
 use lib.ListN.{length, length-replicate}
 use lib.Seq.{sets, length-sets}
-use borrow.Author.Tests.{lt-ltb, le-ltb, ne_eqb}
-use Rattle.definition.specs.Calls.{refusal, source_checks, short_table, filled, counted, Filled, fills}
+use borrow.Author.Tests.{lt-ltb, le-ltb, eq-eqb}
+use Rattle.definition.specs.Calls.{fills, filled, padded, refusal, source_checks, short_table}
+use Rattle.text.specs.Refusal.{number, code}
+use Rattle.text.specs.Answers.{Answers}
+use Rattle.text.specs.declared.Counted.{Counted}
+use Rattle.text.specs.declared.refusal.Refusal.{Refusal}
+use Rattle.text.specs.declared.refusal.Refusal.TheVariants.{Length}
+use Rattle.text.proofs.Refusals.{source_then, source_refused, source_passed}
 use Rattle.table.specs.Fills.{Fills, Written}
 use Rattle.table.proofs.Tables.{zeros, written_padded}
-use Rattle.text.proofs.Refusals.{source_then, source_refused, source_passed, source_length}
 
--- A call whose table is refused by one number more.
-abbrev pub call : List ℕ → ℕ → ℕ → List ℕ → ℕ → Filled
-call src number n numbers room = fills (refusal (source_then src (short_table number numbers room ∷ []))) n numbers room
+-- No refusal has the number 0.
+pub numbered : (r : Refusal) → eqb (number r) 0 ≡ false
+numbered Length = refl
+numbered r = refl
 
-module _ (src : List ℕ) (number n : ℕ) (numbers : List ℕ) (room : ℕ) (t : List ℕ) where
-  fills_by : (r k m : ℕ) → refusal (source_then src (short_table number numbers room ∷ [])) ≡ k → r ≡ k → m ≡ counted k n → t ≡ filled k numbers room
-      → Fills (call src number n numbers room) (record { refusal = r; count = m }) t
-  fills_by r k m e p q s = record { refusal_is = rw e p; count_is = rw e q; table_is = rw e s }
-
-  refused_by : (r : ℕ) → refusal (source_then src (short_table number numbers room ∷ [])) ≡ r → eqb r 0 ≡ false → t ≡ zeros room
-      → Fills (call src number n numbers room) (record { refusal = r; count = 0 }) t
+-- The answer of a result under a refusal number k, 0 if none, by the table that it leaves; c: what is counted where nothing is refused.
+module _ (k c : ℕ) (numbers : List ℕ) (room : ℕ) (r : Counted) (t : List ℕ) where
+  pub refused_fills : (o : Result ℕ Refusal) → is_err o ≡ true → code o ≡ k → Answers o r → t ≡ zeros room → Fills (fills k c numbers room) r t
   unfolding filled
-  refused_by r e z q = fills_by r r 0 e refl (rw z) (rw z q)
+  refused_fills (Ok n) h e a q = absurd (false≢true h)
+  refused_fills (Err x) h e a q =
+      let z : eqb k 0 ≡ false = ap (λ j. eqb j 0) (sym e) ∙ numbered x in
+      record { refusal_is = a.refusal_is ∙ e; count_is = a.count_is ∙ rw z refl; table_is = q ∙ rw z refl }
 
-  module _ (r : ℕ) (e : r ≡ refusal (source_checks src)) where
-    -- The source is refused,
-    pub call_refused : (r ≡ 0 → ⊥) → t ≡ zeros room → Fills (call src number n numbers room) (record { refusal = r; count = 0 }) t
-    call_refused z q = refused_by r (source_refused src r e _ z) (ne_eqb r 0 z) q
+  pub listed_fills : (o : Result ℕ Refusal) → is_err o ≡ false → code o ≡ k → Answers o r → IfOk o (λ n. (n ≡ c) × (t ≡ padded numbers room))
+      → Fills (fills k c numbers room) r t
+  unfolding filled
+  listed_fills (Err x) h e a l = absurd (false≢true (sym h))
+  listed_fills (Ok n) h e a l = rw (← e) (record { refusal_is = a.refusal_is; count_is = a.count_is ∙ l.0; table_is = l.1 })
 
-    module _ (z : r ≡ 0) where
-      -- or the table,
-      pub call_short : eqb number 0 ≡ false → room < length numbers → t ≡ zeros room
-          → Fills (call src number n numbers room) (record { refusal = number; count = 0 }) t
-      unfolding refusal
-      call_short nz h q = refused_by number (source_passed src r e (short_table number numbers room ∷ []) z ∙ rw (lt-ltb room (length numbers) h)) nz q
+-- The same of numbers that were written into a cleared table, all of them counted.
+pub whole_fills : (k : ℕ) (numbers : List ℕ) (room : ℕ) (r : Counted) (t : List ℕ) (o : Result ℕ Refusal) (t₀ : List ℕ) → is_err o ≡ false → code o ≡ k
+    → Answers o r → IfOk o (λ n. Written numbers t₀ n t) → IfOk o (λ n. n ≤ length t) → t₀ ≡ zeros room → Fills (fills k (length numbers) numbers room) r t
+whole_fills k numbers room r t (Err x) t₀ h e a w f b = absurd (false≢true (sym h))
+whole_fills k numbers room r t (Ok n) t₀ h e a w f b =
+    let l : length t ≡ room = ap length w.table_is ∙ length-sets t₀ 0 numbers ∙ ap length b ∙ length-replicate room 0 in
+    listed_fills k (length numbers) numbers room r t (Ok n) h e a
+    (w.count_is, w.table_is ∙ ap (λ s. sets s 0 numbers) b ∙ written_padded numbers room (omega (arith, w.count_is)))
 
-      -- or nothing is.
-      pub call_whole : (m : ℕ) → length numbers ≤ room → m ≡ n → t ≡ sets (zeros room) 0 numbers
-          → Fills (call src number n numbers room) (record { refusal = 0; count = m }) t
-      unfolding refusal filled
-      call_whole m h p q =
-          fills_by
-          0
-          0
-          m
-          (source_passed src r e (short_table number numbers room ∷ []) z ∙ rw (le-ltb room (length numbers) h))
-          refl
-          p
-          (q ∙ written_padded numbers room h)
+-- A text is refused first, then a table that is short.
+module _ (src : List ℕ) (o : Result ⊤ Refusal) (e : code o ≡ refusal (source_checks src)) (x : Refusal) (numbers : List ℕ) (room : ℕ) where
+  abbrev checked : ℕ
+  checked = refusal (source_then src (short_table (number x) numbers room ∷ []))
 
--- The same where what is counted is the numbers, and n of them were written into the cleared table t₀ as far as it goes.
-module _ (src : List ℕ) (number : ℕ) (numbers : List ℕ) (room r n : ℕ) (t₀ t₁ : List ℕ)
-    (e : r ≡ refusal (source_checks src)) (z : r ≡ 0) (b : t₀ ≡ zeros room) (k : Written numbers t₀ n t₁) where
-  written_long : length t₁ ≡ room
-  written_long = ap length k.table_is ∙ length-sets t₀ 0 numbers ∙ ap length b ∙ length-replicate room 0
+  pub refused_first : (y : Refusal) → o ≡ Err y → number y ≡ checked
+  refused_first y q =
+      let n : number y ≡ code o = sym (ap code q) in
+      n ∙ sym (source_refused src (code o) e _ (λ z. false≢true (sym (numbered y) ∙ eq-eqb (number y) 0 (n ∙ z))))
 
-  pub written_short : (t₂ : List ℕ) → eqb number 0 ≡ false → length t₁ < n → t₂ ≡ zeros (length t₁)
-      → Fills (call src number (length numbers) numbers room) (record { refusal = number; count = 0 }) t₂
-  written_short t₂ nz h q =
-      call_short src number _ numbers room t₂ r e z nz (omega (arith, written_long, k.count_is)) (q ∙ ap zeros written_long)
+  module _ (u : ⊤) (q : o ≡ Ok u) where
+    passed : refusal (short_table (number x) numbers room ∷ []) ≡ checked
+    passed = sym (source_passed src (code o) e _ (ap code q))
 
-  pub written_whole : n ≤ length t₁ → Fills (call src number (length numbers) numbers room) (record { refusal = 0; count = n }) t₁
-  written_whole h =
-      call_whole src number _ numbers room t₁ r e z n (omega (arith, written_long, k.count_is)) k.count_is
-      (k.table_is ∙ ap (λ t. sets t 0 numbers) b)
+    alone_short : room < length numbers → refusal (short_table (number x) numbers room ∷ []) ≡ number x
+    unfolding refusal
+    alone_short h = rw (lt-ltb room (length numbers) h) refl
 
-  pub written_fits : length numbers ≤ suc (length src) → Fits w32 n
-  written_fits h = omega (arith, k.count_is, source_length src r e z)
+    alone_fits : length numbers ≤ room → refusal (short_table (number x) numbers room ∷ []) ≡ 0
+    unfolding refusal
+    alone_fits h = rw (le-ltb room (length numbers) h) refl
+
+    pub short_second : room < length numbers → number x ≡ checked
+    short_second h = sym (alone_short h) ∙ passed
+
+    pub none_refused : length numbers ≤ room → 0 ≡ checked
+    none_refused h = sym (alone_fits h) ∙ passed

@@ -8,7 +8,7 @@ use Rattle.theorems.proofs.Lexing.Lines.{few_lines}
 use Rattle.text.proofs.Refusals.{source_length}
 use Rattle.text.specs.Refusal.{number, code}
 use Rattle.text.specs.declared.refusal.Refusal.TheVariants.{Lines}
-use Rattle.line_map.proofs.Outcomes.{refused_first, short_second, none_refused}
+use Rattle.table.proofs.Outcomes.{refused_first, short_second, none_refused}
 use Rattle.line_map.proofs.starts_into.Goals as goal
 
 pub returns-in_err-check-clause-code : goal.returns-in_err-check-clause-code

@@ -5,7 +5,7 @@ use lib.ListN.{length}
 use Rattle.definition.specs.Unescaped.{unescaped}
 use Rattle.definition.specs.Calls.{unescaping}
 use Rattle.table.proofs.Tables.{zeros}
-use Rattle.unescaped.proofs.Outcomes.{refused_fills, whole_fills}
+use Rattle.table.proofs.Outcomes.{refused_fills, whole_fills}
 use Rattle.unescaped.proofs.unescape.Goals.{then-is_err, else-is_err}
 use Rattle.unescaped.proofs.unescape.Goals as goal
 
@@ -19,7 +19,7 @@ returns c =
     elim c.if-is_err.branch [
       | then-is_err w ↦
           let e : c.if-is_err.output ≡ zeros room = search rules in
-          refused_fills _ (unescaped text) room _ _ outcome.result (search rules) k c.from.ensures e
+          refused_fills _ _ (unescaped text) room _ _ outcome.result (search rules) k c.from.ensures e
       | else-is_err w ↦
           let e : c.fill.new.self ≡ zeros room = search rules in
           rw w.output-is (whole_fills _ (unescaped text) room _ _ outcome.result c.fill.new.self (search rules) k c.from.ensures outcome.ensures.written outcome.ensures.fits e)

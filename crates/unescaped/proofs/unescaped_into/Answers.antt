@@ -8,7 +8,7 @@ use Rattle.theorems.proofs.Lexing.Unescapes.{unescaped_fewer}
 use Rattle.text.proofs.Refusals.{source_length}
 use Rattle.text.specs.Refusal.{number, code}
 use Rattle.text.specs.declared.refusal.Refusal.TheVariants.{Output}
-use Rattle.unescaped.proofs.Outcomes.{refused_first, short_second, none_refused}
+use Rattle.table.proofs.Outcomes.{refused_first, short_second, none_refused}
 use Rattle.unescaped.proofs.unescaped_into.Goals as goal
 
 pub returns-in_err-check-clause-code : goal.returns-in_err-check-clause-code
