@@ -1,3 +1,4 @@
-pub mod Table
-pub mod Scan
 pub mod Passes
+pub mod Scan
+pub mod Strings
+pub mod Table

@@ -10,7 +10,7 @@ use lib.Dec.{eqb, leb}
 use lib.ListN.{length, drop, get_or, drop_of_length-le}
 use lib.Seq.{drop-cons}
 use borrow.Author.Tests.{eq-eqb, ne_eqb, leb-true, leb-false}
-use Rattle.definition.specs.Text.{byte, same}
+use Rattle.definition.specs.Text.{same}
 use Rattle.definition.specs.Unescaped.{unescaped}
 use Rattle.theorems.proofs.Lexing.Unescapes.{backslash, unescaped_other, unescaped_fewer}
 use Rattle.unescaped.specs.Continuation.{continuation}
@@ -21,9 +21,6 @@ use Rattle.unescaped.proofs.Continuations as continuations
 pub record Comparing (text word : List ℕ) (i k : ℕ) : Type 0 where
   pub most : k ≤ length word
   pub is : same (unescaped text) word ≡ same (unescaped (drop i text)) (drop k word)
-
-pub start : (text word : List ℕ) → Comparing text word 0 0
-start text word = record { most = omega arith; is = refl }
 
 module _ (text word : List ℕ) (i k : ℕ) (g : Comparing text word i k) where
   pub done : length text ≤ i → eqb k (length word) ≡ same (unescaped text) word
@@ -52,21 +49,6 @@ module _ (text word : List ℕ) (i k : ℕ) (g : Comparing text word i k) where
         pub differs : (get_or text i 0 ≡ get_or word k 0 → ⊥) → false ≡ same (unescaped text) word
         unfolding same
         differs p = sym (g.is ∙ rw (continuations.keeps text i h w e z, drop-cons word k 0 l, ne_eqb _ _ p))
-
--- The quick test, by the first byte of a text.
-module _ (text : List ℕ) (size first b : ℕ) (e : b ≡ get_or text 0 0) where
-  pub may_begin : b ≡ first → leb size (length text) ≡ may_be text size first
-  unfolding may_be
-  may_begin p = rw (← e, eq-eqb b first p)
-
-  module _ (n : b ≡ first → ⊥) where
-    pub may_escape : b ≡ byte "\\" → leb size (length text) ≡ may_be text size first
-    unfolding may_be
-    may_escape q = rw (← e, ne_eqb b first n, eq-eqb b (byte "\\") q)
-
-    pub may_not : (b ≡ byte "\\" → ⊥) → false ≡ may_be text size first
-    unfolding may_be
-    may_not q = rw (← e, ne_eqb b first n, ne_eqb b (byte "\\") q)
 
 -- A text that is shorter than a word, or begins with another byte that is kept, is not the word.
 shorter : (xs ys : List ℕ) → length xs < length ys → same xs ys ≡ false

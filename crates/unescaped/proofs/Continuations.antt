@@ -1,12 +1,15 @@
 -- What stands at a place of a text: a byte that is kept, or a continuation, which is dropped.
 use Rattle.std.specs.Prelude.{if◌then◌else◌}
-use Prim.Native.Nat.{ℕ, zero, suc, ◌+◌, ◌-◌, ◌≤◌, ◌<◌}
+use Prim.Native.Nat.{ℕ, zero, suc, ◌+◌, ◌-◌, ◌^◌, ◌≤◌, ◌<◌}
+use native.Mathlib.Decide.{dec_lt}
 use native.Mathlib.Numerals.{add-one}
 use native.Mathlib.Omega.{arith}
 use mathlib.Core.Path.{◌≡◌, refl, ap, sym, ◌∙◌}
 use mathlib.Core.Bool.{Bool, true, false}
 use mathlib.Core.List.{List, [], ◌∷◌}
-use lib.ListN.{length, drop, get_or, length-drop, drop_of_length-le}
+use mir.Val.{Fits}
+use mir.Syntax.{w64}
+use lib.ListN.{length, drop, get_or, get_or-eq_default, length-drop, drop_of_length-le}
 use lib.Seq.{drop-cons, drop-drop}
 use borrow.Author.Tests.{eqb-true, ne_eqb}
 use Rattle.definition.specs.Text.{byte}
@@ -58,32 +61,40 @@ module _ (s : List ℕ) (at : ℕ) where
     on : drop at s ≡ get_or s at 0 ∷ drop (suc at) s
     on = drop-cons s at 0 h
 
-    pub none_here : (get_or s at 0 ≡ byte "\\" → ⊥) → 0 ≡ continuation (drop at s)
+    other_here : (get_or s at 0 ≡ byte "\\" → ⊥) → 0 ≡ continuation (drop at s)
     unfolding continuation
-    none_here z = rw (on, ne_eqb (get_or s at 0) (byte "\\") z)
+    other_here z = rw (on, ne_eqb (get_or s at 0) (byte "\\") z)
 
-    -- A backslash, by the newline behind it.
-    module _ (w : ℕ) (b : get_or s at 0 ≡ byte "\\") (e : w ≡ newline_len (chars (drop (at + 1) s))) where
+  pub none_here : (get_or s at 0 ≡ byte "\\" → ⊥) → 0 ≡ continuation (drop at s)
+  none_here z = elim (dec_lt at (length s)) [ yes h ↦ other_here h z | no h ↦ none_past (omega arith) ]
+
+  -- A backslash, by the newline behind it.
+  module _ (b : get_or s at 0 ≡ byte "\\") where
+    inside : at < length s
+    inside = elim (dec_lt at (length s)) [ yes h ↦ h | no h ↦ omega (arith, get_or-eq_default s 0 {n = at} (omega arith)) ]
+
+    module _ (w : ℕ) (e : w ≡ newline_len (chars (drop (at + 1) s))) where
       by_newline : escaped_len w ≡ continuation (drop at s)
       unfolding continuation
-      by_newline = rw (on, b, e, add-one at)
+      by_newline = rw (on inside, b, e, add-one at)
 
       pub alone_here : w ≡ 0 → 0 ≡ continuation (drop at s)
       alone_here z = ap escaped_len (sym z) ∙ by_newline
 
-      pub continuation_short : w + 1 ≤ length s
-      continuation_short = omega (arith, newline_within s (at + 1) w (omega arith) e)
+      pub continuation_fits : length s < 2 ^ 64 → Fits w64 (w + 1)
+      continuation_fits h = omega (arith, inside, newline_within s (at + 1) w (omega (arith, inside)) e)
 
       pub continuation_here : (w ≡ 0 → ⊥) → w + 1 ≡ continuation (drop at s)
       continuation_here z = with_some w z ∙ by_newline
 
+  module _ (h : at < length s) where
     -- The unescaped text from a place on, by what stands there.
     module _ (w : ℕ) (e : w ≡ continuation (drop at s)) where
       here : Told (get_or s at 0) (drop (suc at) s) w
-      here = rw (e, on) (told _ _)
+      here = rw (e, on h) (told _ _)
 
       pub keeps : w ≡ 0 → unescaped (drop at s) ≡ get_or s at 0 ∷ unescaped (drop (at + 1) s)
-      keeps z = rw (on, add-one at) (rw z at here)
+      keeps z = rw (on h, add-one at) (rw z at here)
 
       module _ (z : w ≡ 0 → ⊥) where
         both : (at + w ≤ length s) × (unescaped (drop at s) ≡ unescaped (drop (at + w) s))
@@ -93,7 +104,7 @@ module _ (s : List ℕ) (at : ℕ) where
             go zero t z = absurd (z refl)
             go (suc n) t z =
                 let m : suc at + n ≡ at + suc n = omega arith in
-                (omega (arith, t.0, length-drop (suc at) s), ap unescaped on ∙ t.1 ∙ ap unescaped (drop-drop n (suc at) s ∙ ap (λ n. drop n s) m))
+                (omega (arith, t.0, length-drop (suc at) s), ap unescaped (on h) ∙ t.1 ∙ ap unescaped (drop-drop n (suc at) s ∙ ap (λ n. drop n s) m))
 
         pub further : at + w ≤ length s
         further = both.0

@@ -1,13 +1,13 @@
 -- The loop that unescapes: what it has written, with what is left of the text unescaped, is the whole output.
 use Prim.Native.Nat.{ℕ, ◌+◌, ◌≤◌, ◌<◌}
 use native.Mathlib.Omega.{arith}
-use mathlib.Core.Path.{◌≡◌, refl}
+use mathlib.Core.Path.{◌≡◌}
 use mathlib.Core.List.{List}
 use lib.ListN.{length, drop, get_or, set}
 use lib.Seq.{sets}
 use Rattle.definition.specs.Unescaped.{unescaped}
 use Rattle.table.specs.Fills.{Written}
-use Rattle.table.proofs.Tables.{Writing, write_more, write_none, write_long}
+use Rattle.table.proofs.Tables.{Writing, write_more, write_none}
 use Rattle.unescaped.specs.Continuation.{continuation}
 use Rattle.unescaped.proofs.Continuations as continuations
 
@@ -16,9 +16,6 @@ pub record Filling (text t₀ t : List ℕ) (n i : ℕ) : Type 0 where
   pub within : i ≤ length text
   pub few : n ≤ i
   pub writing : Writing (length (unescaped text)) (sets t₀ 0 (unescaped text)) (unescaped (drop i text)) n t
-
-pub start : (text t : List ℕ) → Filling text t t 0 0
-start text t = record { within = omega arith; few = omega arith; writing = record { counted = omega arith; written = refl } }
 
 module _ (text t₀ t : List ℕ) (n i : ℕ) (k : Filling text t₀ t n i) where
   module _ (w : ℕ) (h : i < length text) (e : w ≡ continuation (drop i text)) where
@@ -35,9 +32,6 @@ module _ (text t₀ t : List ℕ) (n i : ℕ) (k : Filling text t₀ t n i) wher
       few = omega arith;
       writing = rw (continuations.drops text i h w e z) at k.writing;
     }
-
-  pub same_long : length t ≡ length t₀
-  same_long = write_long _ n 0 t t₀ _ (unescaped text) k.writing
 
   pub done : length text ≤ i → Written (unescaped text) t₀ n t
   done h =

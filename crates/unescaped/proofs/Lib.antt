@@ -3,3 +3,4 @@ pub mod Comparing
 pub mod Filling
 pub mod Skipping
 pub mod Pairing
+pub mod Outcomes

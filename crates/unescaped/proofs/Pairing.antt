@@ -1,8 +1,8 @@
 -- Comparing two texts, both unescaped: the loop that goes over the bytes that are kept.
-use Prim.Native.Nat.{ℕ, ◌+◌, ◌-◌, ◌≤◌, ◌<◌}
+use Prim.Native.Nat.{ℕ, ◌+◌, ◌≤◌, ◌<◌}
 use native.Mathlib.Decide.{dec_lt}
 use native.Mathlib.Omega.{arith}
-use mathlib.Core.Path.{◌≡◌, sym, ap₂, ◌∙◌}
+use mathlib.Core.Path.{◌≡◌, sym, ◌∙◌}
 use mathlib.Core.Bool.{false}
 use mathlib.Core.List.{List, ◌∷◌}
 use lib.Dec.{leb}
@@ -24,9 +24,6 @@ pub record Pairing (a b : List ℕ) (i k : ℕ) : Type 0 where
   pub right : Kept b k
 
 module _ (a b : List ℕ) (i k : ℕ) where
-  pub start : Skips a 0 i → Skips b 0 k → Pairing a b i k
-  start p q = record { is = ap₂ same p.rest q.rest; left = p.stands; right = q.stands }
-
   module _ (g : Pairing a b i k) where
     pub done : length a ≤ i → leb (length b) k ≡ same (unescaped a) (unescaped b)
     unfolding same
@@ -52,6 +49,3 @@ module _ (a b : List ℕ) (i k : ℕ) where
           left = q.stands;
           right = r.stands;
         }
-
-    pub nearer : (i' : ℕ) → i < length a → Skips a (i + 1) i' → length a - i' < length a - i
-    nearer i' h q = omega (arith, q.on)

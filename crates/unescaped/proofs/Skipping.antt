@@ -2,7 +2,7 @@
 use Prim.Native.Nat.{ℕ, ◌+◌, ◌-◌, ◌≤◌, ◌<◌}
 use native.Mathlib.Decide.{dec_lt}
 use native.Mathlib.Omega.{arith}
-use mathlib.Core.Path.{◌≡◌, refl, sym, ◌∙◌}
+use mathlib.Core.Path.{◌≡◌, sym, ◌∙◌}
 use mathlib.Core.List.{List}
 use lib.ListN.{length, drop}
 use Rattle.definition.specs.Unescaped.{unescaped}
@@ -15,9 +15,6 @@ pub record Skipping (text : List ℕ) (at i : ℕ) : Type 0 where
   pub on : at ≤ i
   pub inside : at ≤ length text → i ≤ length text
   pub rest : unescaped (drop at text) ≡ unescaped (drop i text)
-
-pub start : (text : List ℕ) (at : ℕ) → Skipping text at at
-start text at = record { on = omega arith; inside = λ h. h; rest = refl }
 
 module _ (text : List ℕ) (i w : ℕ) (e : w ≡ continuation (drop i text)) where
   -- A continuation stands inside the text, so it is nowhere past its end.

@@ -1,11 +1,12 @@
 // Unescaping a text (unescaped.rs): each backslash is dropped with the one newline after it, and all else is kept.
 #![tactic(auto)]
 
-ghost use Rattle.std.specs.Prelude.{◌≡◌, length, drop};
+ghost use Rattle.std.specs.Prelude.{◌≡◌, ◌≤◌, length, drop, IfOk};
 ghost use Rattle.definition.specs.Text.{same};
 ghost use Rattle.definition.specs.Unescaped.{unescaped};
 ghost use Rattle.definition.specs.Calls.{unescaping};
 ghost use Rattle.table.specs.Fills.{Fills, Written};
+ghost use Rattle.text.specs.Refusal.{code};
 ghost use Rattle.unescaped.specs.Continuation.{continuation};
 ghost use Rattle.unescaped.specs.Skips.{Skips};
 ghost use Rattle.unescaped.specs.MayBe.{may_be as MayBe·may_be};
@@ -14,20 +15,17 @@ use text::refusal::Refusal;
 use text::{Counted, newline, source};
 
 // How many bytes the continuation at a place has, a backslash and a newline; 0: none stands there.
+#[tactic(auto, using(crate::proofs::Continuations::none_here, crate::proofs::Continuations::alone_here, crate::proofs::Continuations::continuation_here, crate::proofs::Continuations::continuation_fits))]
 fn continuation_at(text: &[u8], at: usize) -> usize
     ensures { result ≡ continuation (drop at text.now) }
 {
-    if text.len() <= at {
+    if newline::byte_at(text, at) != b'\\' {
         return 0;
     }
-    if text[at] != b'\\' {
-        return 0;
+    match newline::newline_at(text, at + 1) {
+        0 => 0,
+        w => w + 1,
     }
-    let w = newline::newline_at(text, at + 1);
-    if w == 0 {
-        return 0;
-    }
-    w + 1
 }
 
 // The first place from a place on at which no continuation stands.
@@ -36,28 +34,21 @@ pub fn skip(text: &[u8], at: usize) -> usize
 {
     let mut i = at;
     loop {
-        let w = continuation_at(text, i);
-        if w == 0 {
-            return i;
+        match continuation_at(text, i) {
+            0 => return i,
+            w => i += w,
         }
-        i += w;
     }
 }
 
 // Whether a text may be a word of so many bytes that begins with this one, unescaped. The word is told in numbers, since a literal would be made
 // anew before the test; and its first byte before its length, since most texts begin otherwise, and a processor foresees that.
+#[tactic(auto, unfolding(crate::specs::MayBe::may_be))]
 pub fn may_be(text: &[u8], size: usize, first: u8) -> bool
     ensures { result ≡ MayBe·may_be text.now size first }
 {
-    let long = size <= text.len();
     let b = newline::byte_at(text, 0);
-    if b == first {
-        return long;
-    }
-    if b == b'\\' {
-        return long;
-    }
-    false
+    (b == first || b == b'\\') && size <= text.len()
 }
 
 // Whether the text, unescaped, is the word, byte by byte.
@@ -67,18 +58,15 @@ fn eq_bytes(text: &[u8], word: &[u8]) -> bool
     let mut i = 0;
     let mut k: usize = 0;
     while i < text.len() {
-        let w = continuation_at(text, i);
-        if w == 0 {
-            if word.len() <= k {
-                return false;
+        match continuation_at(text, i) {
+            0 => {
+                if word.len() <= k || text[i] != word[k] {
+                    return false;
+                }
+                i += 1;
+                k += 1;
             }
-            if text[i] != word[k] {
-                return false;
-            }
-            i += 1;
-            k += 1;
-        } else {
-            i += w;
+            w => i += w,
         }
     }
     k == word.len()
@@ -88,10 +76,7 @@ fn eq_bytes(text: &[u8], word: &[u8]) -> bool
 pub fn eq(text: &[u8], word: &[u8]) -> bool
     ensures { result ≡ same (unescaped text.now) word.now }
 {
-    if may_be(text, word.len(), newline::byte_at(word, 0)) {
-        return eq_bytes(text, word);
-    }
-    false
+    may_be(text, word.len(), newline::byte_at(word, 0)) && eq_bytes(text, word)
 }
 
 // Whether two texts are the same, both unescaped.
@@ -101,10 +86,7 @@ pub fn same_unescaped(a: &[u8], b: &[u8]) -> bool
     let mut i = skip(a, 0);
     let mut k = skip(b, 0);
     while i < a.len() {
-        if b.len() <= k {
-            return false;
-        }
-        if a[i] != b[k] {
+        if b.len() <= k || a[i] != b[k] {
             return false;
         }
         i = skip(a, i + 1);
@@ -120,40 +102,40 @@ fn fill(text: &[u8], output: &mut [u8]) -> usize
     let mut n: usize = 0;
     let mut i = 0;
     while i < text.len() {
-        let w = continuation_at(text, i);
-        if w == 0 {
-            table::put_byte(output, n, text[i]);
-            n += 1;
-            i += 1;
-        } else {
-            i += w;
+        match continuation_at(text, i) {
+            0 => {
+                table::put(output, n, text[i]);
+                n += 1;
+                i += 1;
+            }
+            w => i += w,
         }
     }
     n
+}
+
+// Writes the unescaped text into a cleared output, or says why the call is refused.
+fn unescaped_into(text: &[u8], output: &mut [u8]) -> Result<u32, Refusal>
+    ensures code { code result ≡ (unescaping text.now (length output.old)).refused }
+    ensures written { IfOk result (λ n. Written (unescaped text.now) output.old n output.new) }
+    ensures fits { IfOk result (λ n. n ≤ length output.new) }
+{
+    source::check(text)?;
+    let n = fill(text, output);
+    if output.len() < n {
+        return Err(Refusal::Output);
+    }
+    Ok(n as u32)
 }
 
 // The unescaped text.
 pub fn unescape(text: &[u8], output: &mut [u8]) -> Counted
     ensures { Fills (unescaping text.now (length output.old)) result output.new }
 {
-    table::clear_bytes(output);
-    let refused = source::refused(text);
-    if refused != Refusal::NONE {
-        return Counted {
-            refusal: refused,
-            count: 0,
-        };
+    output.fill(0);
+    let outcome = unescaped_into(text, output);
+    if outcome.is_err() {
+        output.fill(0);
     }
-    let n = fill(text, output);
-    if output.len() < n {
-        table::clear_bytes(output);
-        return Counted {
-            refusal: Refusal::OUTPUT,
-            count: 0,
-        };
-    }
-    Counted {
-        refusal: Refusal::NONE,
-        count: n as u32,
-    }
+    Counted::from(outcome)
 }
