@@ -17,7 +17,7 @@ use Rattle.syntax_kind.specs.Number.{number, numbered_kinds, kind_of}
 use Rattle.syntax_kind.specs.declared.kind.SyntaxKind.{SyntaxKind}
 use Rattle.syntax_kind.specs.declared.kind.SyntaxKind.TheVariants as kind
 use Rattle.syntax_kind.proofs.Numbers.{other_kind, numbered}
-use Rattle.pre.specs.Table.{ClassNumber, punct, class_number, class_number_of}
+use Rattle.pre.specs.Table.{ClassNumber, punct, class_number, class_number_of, IsPunct}
 
 pub is_false : (t : Bool) → (t ≡ true → ⊥) → t ≡ false
 is_false true h = absurd (h refl)
@@ -224,9 +224,10 @@ module _ (b : ℕ) (k : SyntaxKind) (c : number k ≡ class_number b) where
   no_blank n = is_false (blank b) (λ p.
       other_kind k kind.WS n (c ∙ eqb-true (class_number b) ClassNumber.WS (of_row (λ x. eqb (class_number x) ClassNumber.WS) blanks b p refl)))
 
-  pub punct_is : (k ≡ kind.IDENT_KW → ⊥) → (k ≡ kind.DIGITS → ⊥) → (k ≡ kind.NEWLINE → ⊥) → (k ≡ kind.WS → ⊥) → number k ≡ punct b
-  punct_is l d n w =
-      (entry b (number k) c).punct_is (other_kind k kind.IDENT_KW l) (other_kind k kind.DIGITS d) (other_kind k kind.NEWLINE n) (other_kind k kind.WS w)
+  pub punct_is : IsPunct k → number k ≡ punct b
+  punct_is h =
+      (entry b (number k) c).punct_is
+      (other_kind k kind.IDENT_KW h.no_letter) (other_kind k kind.DIGITS h.no_digit) (other_kind k kind.NEWLINE h.no_newline) (other_kind k kind.WS h.no_blank)
 
   -- Letters, digits, blanks and ASCII that is no newline are characters of one byte.
   pub closed_letter : k ≡ kind.IDENT_KW → Closed b

@@ -13,7 +13,7 @@ use Rattle.definition.specs.Pre.{done, slash, ident, single_comment, whitespace,
 use Rattle.syntax_kind.specs.Number.{number}
 use Rattle.syntax_kind.specs.declared.kind.SyntaxKind.{SyntaxKind}
 use Rattle.syntax_kind.specs.declared.kind.SyntaxKind.TheVariants as kind
-use Rattle.pre.specs.Table.{punct, class_number}
+use Rattle.pre.specs.Table.{punct, class_number, IsPunct}
 use Rattle.pre.specs.Scan.{takes_point}
 use Rattle.theorems.proofs.Grammar.Clean.{or_left, or_right}
 use Rattle.pre.proofs.Classes.{Closed, closed_is, Within, letter_within, digit_within, letter_no_digit, every, of_row, letter_is, digit_is, newline_is, blank_is, no_letter, no_digit, no_newline, no_blank, punct_is}
@@ -180,11 +180,10 @@ module _ (b : ℕ) (k : SyntaxKind) (f : Bool) (c : number k ≡ class_number b)
       rw (no_letter b k c (λ y. cc), no_under blanks w refl, no_digit b k c (λ y. cc), no_newline b k c (λ y. cc), w)
 
   -- Punctuation that begins no longer token.
-  pub begin_punct : (k ≡ kind.IDENT_KW → ⊥) → (k ≡ kind.DIGITS → ⊥) → (k ≡ kind.NEWLINE → ⊥) → (k ≡ kind.WS → ⊥) → Plain b → begin f b ≡ done (number k)
+  pub begin_punct : IsPunct k → Plain b → begin f b ≡ done (number k)
   unfolding begin punct
-  begin_punct l d n w p =
-      let e : number k ≡ punct b = punct_is b k c l d n w in
-      rw (e, no_letter b k c l, ne_eqb b _ p.no_under, no_digit b k c d, no_newline b k c n, no_blank b k c w, ne_eqb b _ p.no_quote)
+  begin_punct h p =
+      rw (punct_is b k c h, no_letter b k c h.no_letter, ne_eqb b _ p.no_under, no_digit b k c h.no_digit, no_newline b k c h.no_newline, no_blank b k c h.no_blank, ne_eqb b _ p.no_quote)
       (rw (ne_eqb b _ p.no_less, and-false f, ne_eqb b _ p.no_backslash, ne_eqb b _ p.no_slash))
 
   -- The flag is kept by every byte but a newline, a quote and a `<`.
