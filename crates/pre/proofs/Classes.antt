@@ -1,18 +1,23 @@
 -- What the entry of a byte in the table of classes says of it.
-use Rattle.std.specs.Prelude.{◌∷◌}
-use Prim.Native.Nat.{ℕ, ◌≤◌, ◌<◌}
-use mathlib.Core.Path.{◌≡◌, refl, ◌∙◌}
+use Rattle.std.specs.Prelude.{◌∷◌, if◌then◌else◌, pred}
+use Prim.Native.Nat.{ℕ, suc, ◌+◌, ◌-◌, ◌≤◌, ◌<◌}
+use mathlib.Core.Path.{◌≡◌, refl, sym, ap, ◌∙◌}
 use mathlib.Core.Bool.{Bool, true, false, ◌&&◌, ◌||◌, not, false≢true, and-eq-true_iff}
 use mathlib.Core.Option.{none}
 use native.Mathlib.Omega.{arith}
 use lib.Dec.{eqb, leb, ltb}
+use lib.ListN.{length, get_or}
 use borrow.Author.Tests.{ne_eqb, eqb-true, eqb-false, lt-leb, leb-true, ltb-true, not-true}
-use Rattle.definition.specs.Text.{List, [], among, one_of, byte}
+use Rattle.definition.specs.Text.{List, [], among, one_of, byte, ascii}
 use Rattle.definition.specs.SyntaxKind.{Kind}
-use Rattle.definition.specs.Newline.{LF, CR, char_more, letter, digit, newlines, newline, blanks, blank, class}
-use Rattle.definition.specs.Pre.{puncts}
+use Rattle.definition.specs.Newline.{LF, CR, char_more, letter, digit, newlines, newline, blanks, blank, Class, LETTER, DIGIT, NEWLINE, WS, PUNCT, class}
+use Rattle.definition.specs.Pre.{find, puncts}
 use Rattle.theorems.proofs.Lexing.Sorts.{find_low}
-use Rattle.pre.specs.Table.{ClassNumber, punct, class_number, class_number_of}
+use Rattle.syntax_kind.specs.Number.{number, numbered_kinds, kind_of}
+use Rattle.syntax_kind.specs.declared.kind.SyntaxKind.{SyntaxKind}
+use Rattle.syntax_kind.specs.declared.kind.SyntaxKind.TheVariants as kind
+use Rattle.syntax_kind.proofs.Numbers.{other_kind, numbered}
+use Rattle.pre.specs.Table.{ClassNumber, punct, class_number, class_number_of, IsPunct}
 
 pub is_false : (t : Bool) → (t ≡ true → ⊥) → t ≡ false
 is_false true h = absurd (h refl)
@@ -75,111 +80,167 @@ of_row p (x ∷ xs) b e h = let a = (and-eq-true_iff (p x) (every p xs)).0 h in 
     go true q a ih = rw (eqb-true b x q) a
     go false q a ih = ih (rw q at e)
 
--- The entries of punctuation lie above the others.
-pub punct_low : (b : ℕ) → Kind.PERIOD ≤ punct b
-unfolding punct
-punct_low b = find_low b puncts Kind.PERIOD (omega arith)
+-- The kind of punctuation is one of a row of numbers, or ERROR.
+module _ (c : ℕ) where
+  find_other : (x : ℕ) (ps : List ℕ) (k : ℕ) → k + length ps ≤ x → (x ≡ Kind.ERROR → ⊥) → find c ps k ≡ x → ⊥
+  unfolding find
+  find_other x [] k h n e = n (sym e)
+  find_other x (p ∷ ps) k h n e = go (eqb c p) (find_other x ps (suc k) (omega arith) n) e
+    where
+      go : (t : Bool) → (find c ps (suc k) ≡ x → ⊥) → (if t then k else find c ps (suc k)) ≡ x → ⊥
+      go true ih r = omega arith
+      go false ih r = ih r
+
+  find_high : (ps : List ℕ) (k : ℕ) → k + length ps ≤ Kind.ERROR → find c ps k ≤ Kind.ERROR
+  unfolding find
+  find_high [] k h = omega arith
+  find_high (p ∷ ps) k h = go (eqb c p) (find_high ps (suc k) (omega arith))
+    where
+      go : (t : Bool) → find c ps (suc k) ≤ Kind.ERROR → (if t then k else find c ps (suc k)) ≤ Kind.ERROR
+      go true ih = omega arith
+      go false ih = ih
+
+-- An entry is the number of a kind.
+record Numbered (n : ℕ) : Type 0 where
+  some : 0 < n
+  last : n ≤ Kind.ERROR
+
+numbered_entry : (b : ℕ) → Numbered (class_number b)
+unfolding class_number class_number_of punct ascii
+numbered_entry b = go (class b)
+  where
+    go : (x : Class) → Numbered (class_number_of x b)
+    go LETTER = record { some = omega arith; last = omega arith }
+    go DIGIT = record { some = omega arith; last = omega arith }
+    go NEWLINE = record { some = omega arith; last = omega arith }
+    go WS = record { some = omega arith; last = omega arith }
+    go PUNCT = record { some = omega (arith, find_low b puncts Kind.PERIOD (omega arith)); last = find_high b puncts Kind.PERIOD (omega arith) }
+
+pub class_kind : (b : ℕ) → number (kind_of (class_number b)) ≡ class_number b
+class_kind b =
+    let n : Numbered (class_number b) = numbered_entry b in
+    let p : pred (class_number b) ≡ class_number b - 1 = omega arith in
+    ap (λ i. number (get_or numbered_kinds i kind.ERROR)) p ∙ numbered (class_number b) kind.ERROR n.some (omega (arith, n.last))
 
 -- What an entry says.
-pub record Says (b k : ℕ) : Type 0 where
-  pub letter_is : k ≡ ClassNumber.LETTER → letter b ≡ true
-  pub low_is : k < ClassNumber.NEWLINE → (letter b || digit b) ≡ true
-  pub digit_is : k ≡ ClassNumber.DIGIT → digit b ≡ true
-  pub newline_is : k ≡ ClassNumber.NEWLINE → newline b ≡ true
-  pub blank_is : k ≡ ClassNumber.WS → blank b ≡ true
-  pub no_letter : (k ≡ ClassNumber.LETTER → ⊥) → letter b ≡ false
-  pub no_digit : ClassNumber.NEWLINE ≤ k → digit b ≡ false
-  pub punct_is : Kind.PERIOD ≤ k → k ≡ punct b
+record Entry (b n : ℕ) : Type 0 where
+  letter_is : n ≡ ClassNumber.LETTER → letter b ≡ true
+  digit_is : n ≡ ClassNumber.DIGIT → digit b ≡ true
+  newline_is : n ≡ ClassNumber.NEWLINE → newline b ≡ true
+  blank_is : n ≡ ClassNumber.WS → blank b ≡ true
+  no_letter : (n ≡ ClassNumber.LETTER → ⊥) → letter b ≡ false
+  no_digit : (n ≡ ClassNumber.DIGIT → ⊥) → digit b ≡ false
+  punct_is : (n ≡ ClassNumber.LETTER → ⊥) → (n ≡ ClassNumber.DIGIT → ⊥) → (n ≡ ClassNumber.NEWLINE → ⊥) → (n ≡ ClassNumber.WS → ⊥) → n ≡ punct b
 
-pub says : (b k : ℕ) → k ≡ class_number b → Says b k
-unfolding class_number class_number_of class
-says b k e = go (letter b) (digit b) (newline b) (blank b) refl refl refl refl (punct_low b)
+entry : (b n : ℕ) → n ≡ class_number b → Entry b n
+unfolding class_number class_number_of class punct ascii
+entry b n e = go (letter b) (digit b) (newline b) (blank b) refl refl refl refl (find_low b puncts Kind.PERIOD (omega arith)) (λ x h m. find_other b x puncts Kind.PERIOD h m)
   where
-    go : (l d n w : Bool) → letter b ≡ l → digit b ≡ d → newline b ≡ n → blank b ≡ w → Kind.PERIOD ≤ punct b → Says b k
-    go true d n w p q r t u =
-        let z : k ≡ ClassNumber.LETTER = e ∙ rw p in
+    go : (l d v w : Bool) → letter b ≡ l → digit b ≡ d → newline b ≡ v → blank b ≡ w
+        → Kind.PERIOD ≤ punct b → ((x : ℕ) → Kind.HASH < x → (x ≡ Kind.ERROR → ⊥) → punct b ≡ x → ⊥) → Entry b n
+    go true d v w p q r t low apart =
+        let z : n ≡ ClassNumber.LETTER = e ∙ rw p in
         record {
           letter_is = λ h. p;
-          low_is = λ h. rw p;
           digit_is = λ h. absurd (omega arith);
           newline_is = λ h. absurd (omega arith);
           blank_is = λ h. absurd (omega arith);
           no_letter = λ h. absurd (h z);
-          no_digit = λ h. absurd (omega arith);
-          punct_is = λ h. absurd (omega arith);
+          no_digit = λ h. letter_no_digit b p;
+          punct_is = λ h i j l. absurd (h z);
         }
-    go false true n w p q r t u =
-        let z : k ≡ ClassNumber.DIGIT = e ∙ rw (p, q) in
+    go false true v w p q r t low apart =
+        let z : n ≡ ClassNumber.DIGIT = e ∙ rw (p, q) in
         record {
           letter_is = λ h. absurd (omega arith);
-          low_is = λ h. rw (p, q);
           digit_is = λ h. q;
           newline_is = λ h. absurd (omega arith);
           blank_is = λ h. absurd (omega arith);
           no_letter = λ h. p;
-          no_digit = λ h. absurd (omega arith);
-          punct_is = λ h. absurd (omega arith);
+          no_digit = λ h. absurd (h z);
+          punct_is = λ h i j l. absurd (i z);
         }
-    go false false true w p q r t u =
-        let z : k ≡ ClassNumber.NEWLINE = e ∙ rw (p, q, r) in
+    go false false true w p q r t low apart =
+        let z : n ≡ ClassNumber.NEWLINE = e ∙ rw (p, q, r) in
         record {
           letter_is = λ h. absurd (omega arith);
-          low_is = λ h. absurd (omega arith);
           digit_is = λ h. absurd (omega arith);
           newline_is = λ h. r;
           blank_is = λ h. absurd (omega arith);
           no_letter = λ h. p;
           no_digit = λ h. q;
-          punct_is = λ h. absurd (omega arith);
+          punct_is = λ h i j l. absurd (j z);
         }
-    go false false false true p q r t u =
-        let z : k ≡ ClassNumber.WS = e ∙ rw (p, q, r, t) in
+    go false false false true p q r t low apart =
+        let z : n ≡ ClassNumber.WS = e ∙ rw (p, q, r, t) in
         record {
           letter_is = λ h. absurd (omega arith);
-          low_is = λ h. absurd (omega arith);
           digit_is = λ h. absurd (omega arith);
           newline_is = λ h. absurd (omega arith);
           blank_is = λ h. t;
           no_letter = λ h. p;
           no_digit = λ h. q;
-          punct_is = λ h. absurd (omega arith);
+          punct_is = λ h i j l. absurd (l z);
         }
-    go false false false false p q r t u =
-        let z : k ≡ punct b = e ∙ rw (p, q, r, t) in
+    go false false false false p q r t low apart =
+        let z : n ≡ punct b = e ∙ rw (p, q, r, t) in
         record {
           letter_is = λ h. absurd (omega arith);
-          low_is = λ h. absurd (omega arith);
           digit_is = λ h. absurd (omega arith);
-          newline_is = λ h. absurd (omega arith);
-          blank_is = λ h. absurd (omega arith);
+          newline_is = λ h. absurd (apart ClassNumber.NEWLINE (omega arith) (λ x. omega arith) (sym z ∙ h));
+          blank_is = λ h. absurd (apart ClassNumber.WS (omega arith) (λ x. omega arith) (sym z ∙ h));
           no_letter = λ h. p;
           no_digit = λ h. q;
-          punct_is = λ h. z;
+          punct_is = λ h i j l. z;
         }
 
-module _ (b k : ℕ) (e : k ≡ class_number b) where
-  pub no_newline : (k ≡ ClassNumber.NEWLINE → ⊥) → newline b ≡ false
+-- What the entry of a byte says of it.
+module _ (b : ℕ) (k : SyntaxKind) (c : number k ≡ class_number b) where
+  pub letter_is : k ≡ kind.IDENT_KW → letter b ≡ true
+  letter_is h = (entry b (number k) c).letter_is (ap number h)
+
+  pub digit_is : k ≡ kind.DIGITS → digit b ≡ true
+  digit_is h = (entry b (number k) c).digit_is (ap number h)
+
+  pub newline_is : k ≡ kind.NEWLINE → newline b ≡ true
+  newline_is h = (entry b (number k) c).newline_is (ap number h)
+
+  pub blank_is : k ≡ kind.WS → blank b ≡ true
+  blank_is h = (entry b (number k) c).blank_is (ap number h)
+
+  pub no_letter : (k ≡ kind.IDENT_KW → ⊥) → letter b ≡ false
+  no_letter n = (entry b (number k) c).no_letter (other_kind k kind.IDENT_KW n)
+
+  pub no_digit : (k ≡ kind.DIGITS → ⊥) → digit b ≡ false
+  no_digit n = (entry b (number k) c).no_digit (other_kind k kind.DIGITS n)
+
+  pub no_newline : (k ≡ kind.NEWLINE → ⊥) → newline b ≡ false
   unfolding class_number class_number_of class
-  no_newline h = is_false (newline b) (λ p. h (e ∙ eqb-true (class_number b) ClassNumber.NEWLINE (of_row (λ x. eqb (class_number x) ClassNumber.NEWLINE) newlines b p refl)))
+  no_newline n = is_false (newline b) (λ p.
+      other_kind k kind.NEWLINE n (c ∙ eqb-true (class_number b) ClassNumber.NEWLINE (of_row (λ x. eqb (class_number x) ClassNumber.NEWLINE) newlines b p refl)))
 
-  pub no_blank : (k ≡ ClassNumber.WS → ⊥) → blank b ≡ false
+  pub no_blank : (k ≡ kind.WS → ⊥) → blank b ≡ false
   unfolding class_number class_number_of class
-  no_blank h = is_false (blank b) (λ p. h (e ∙ eqb-true (class_number b) ClassNumber.WS (of_row (λ x. eqb (class_number x) ClassNumber.WS) blanks b p refl)))
+  no_blank n = is_false (blank b) (λ p.
+      other_kind k kind.WS n (c ∙ eqb-true (class_number b) ClassNumber.WS (of_row (λ x. eqb (class_number x) ClassNumber.WS) blanks b p refl)))
 
-  -- Letters, digits, blanks and ASCII punctuation are characters of one byte.
-  pub closed_word : k < ClassNumber.NEWLINE → Closed b
-  closed_word h = go (letter b) (digit b) refl refl ((says b k e).low_is h)
-    where
-      go : (l d : Bool) → letter b ≡ l → digit b ≡ d → (l || d) ≡ true → Closed b
-      go true d p q r = let w : Within (byte "A") (byte "z") b = letter_within b p in closed_by b (omega arith) (λ z. omega arith) (λ z. omega arith)
-      go false true p q r = let w : Within (byte "0") (byte "9") b = digit_within b q in closed_by b (omega arith) (λ z. omega arith) (λ z. omega arith)
-      go false false p q r = absurd (false≢true r)
+  pub punct_is : IsPunct k → number k ≡ punct b
+  punct_is h =
+      (entry b (number k) c).punct_is
+      (other_kind k kind.IDENT_KW h.no_letter) (other_kind k kind.DIGITS h.no_digit) (other_kind k kind.NEWLINE h.no_newline) (other_kind k kind.WS h.no_blank)
 
-  pub closed_blank : k ≡ ClassNumber.WS → Closed b
-  closed_blank h = closed_is b b refl (of_row closed blanks b ((says b k e).blank_is h) refl)
+  -- Letters, digits, blanks and ASCII that is no newline are characters of one byte.
+  pub closed_letter : k ≡ kind.IDENT_KW → Closed b
+  closed_letter h =
+      let w : Within (byte "A") (byte "z") b = letter_within b (letter_is h) in closed_by b (omega arith) (λ z. omega arith) (λ z. omega arith)
 
-  pub closed_punct : Kind.PERIOD ≤ k → b < 192 → Closed b
+  pub closed_digit : k ≡ kind.DIGITS → Closed b
+  closed_digit h =
+      let w : Within (byte "0") (byte "9") b = digit_within b (digit_is h) in closed_by b (omega arith) (λ z. omega arith) (λ z. omega arith)
+
+  pub closed_blank : k ≡ kind.WS → Closed b
+  closed_blank h = closed_is b b refl (of_row closed blanks b (blank_is h) refl)
+
+  pub closed_punct : (k ≡ kind.NEWLINE → ⊥) → b < 192 → Closed b
   unfolding class_number class_number_of class
-  closed_punct h l = closed_by b l
-      (λ z. let y : k ≡ ClassNumber.NEWLINE = e ∙ rw z in omega arith)
-      (λ z. let y : k ≡ ClassNumber.NEWLINE = e ∙ rw z in omega arith)
+  closed_punct n l = closed_by b l (λ z. other_kind k kind.NEWLINE n (c ∙ rw z)) (λ z. other_kind k kind.NEWLINE n (c ∙ rw z))

@@ -53,12 +53,11 @@ module _ (s : List ℕ) (at i : ℕ) (k : Same s single_comment at single_commen
     module _ (r : SyntaxKind) (e : number r ≡ class_number (get_or s i 0)) where
       pub line_stops : r ≡ kind.NEWLINE → token Kind.COMMENT i ≡ from single_comment 0 at s
       unfolding kind_of
-      line_stops z = same_stop s single_comment at single_comment i k h (single_stops _ _ e (ap number z))
+      line_stops z = same_stop s single_comment at single_comment i k h (single_stops _ _ e z)
 
       pub line_goes : (r ≡ kind.NEWLINE → ⊥) → (get_or s i 0 ≡ byte "\\" → ⊥) → Same s single_comment at single_comment (i + 1)
       line_goes z n =
-          let y : number r ≡ ClassNumber.NEWLINE → ⊥ = other_kind r kind.NEWLINE z in
-          same_by s single_comment at single_comment i k h single_comment (single_goes _ _ e y n) (any_line (get_or s i 0) (i + 1) s (no_newline _ _ e y))
+          same_by s single_comment at single_comment i k h single_comment (single_goes _ _ e z n) (any_line (get_or s i 0) (i + 1) s (no_newline _ _ e z))
 
     module _ (b : get_or s i 0 ≡ byte "\\") where
       back : Same s single_comment at escaped (i + 1)

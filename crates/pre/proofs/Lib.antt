@@ -10,3 +10,4 @@ pub mod States
 pub mod Strings
 pub mod Truth
 pub mod Values
+pub mod Words

@@ -2,3 +2,4 @@ pub mod Passes
 pub mod Scan
 pub mod Strings
 pub mod Table
+pub mod Words

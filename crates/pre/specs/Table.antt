@@ -1,10 +1,11 @@
 -- The table of 256 classes for first bytes (01, "Gluing and lexing").
-use Rattle.std.specs.Prelude.{ℕ, zero, suc, List, [], ◌∷◌, map}
+use Rattle.std.specs.Prelude.{ℕ, ◌≡◌, zero, suc, List, [], ◌∷◌, map}
 use Rattle.definition.specs.SyntaxKind.{Kind}
 use Rattle.definition.specs.Newline.{Class, LETTER, DIGIT, NEWLINE, WS, PUNCT, class}
 use Rattle.definition.specs.Pre.{find, puncts}
 use Rattle.syntax_kind.specs.Number.{kind_of}
 use Rattle.syntax_kind.specs.declared.kind.SyntaxKind.{SyntaxKind}
+use Rattle.syntax_kind.specs.declared.kind.SyntaxKind.TheVariants as kind
 
 -- The kind of a character that is a token by itself.
 unfoldable pub punct : ℕ → ℕ
@@ -24,6 +25,13 @@ class_number_of PUNCT b = punct b
 -- The entry of a byte.
 unfoldable pub class_number : ℕ → ℕ
 class_number b = class_number_of (class b) b
+
+-- An entry of none of the first four classes.
+pub record IsPunct (k : SyntaxKind) : Type 0 where
+  pub no_letter : k ≡ kind.IDENT_KW → ⊥
+  pub no_digit : k ≡ kind.DIGITS → ⊥
+  pub no_newline : k ≡ kind.NEWLINE → ⊥
+  pub no_blank : k ≡ kind.WS → ⊥
 
 -- f i, f (i + 1), .. : n values.
 abbrev pub values : (ℕ → ℕ) → ℕ → ℕ → List ℕ

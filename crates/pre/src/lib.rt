@@ -16,53 +16,42 @@ pub mod whitespace;
 ghost use Rattle.std.specs.Prelude.{◌≡◌, false, ◌<◌, ◌+◌, length, get_or};
 ghost use Rattle.definition.specs.Pre.{begin, flag};
 ghost use Rattle.pre.specs.Table.{class_table};
-ghost use Rattle.pre.specs.Scan.{from, pre_next};
+ghost use Rattle.pre.specs.Scan.{from, told, pre_next, stepped};
 
-use crate::class::Class;
+use crate::class::{Classes, class_of};
 use crate::token::Token;
-use syntax_kind::kind::Kind;
+use syntax_kind::kind::SyntaxKind;
+use text::newline;
 
 // The token that starts at `at`.
-fn token_at(src: &[u8], table: &[u8; 256], at: usize, angle: bool) -> Token
+fn token_at(src: &[u8], table: &Classes, at: usize, angle: bool) -> Token
     requires { (table.now ≡ class_table) × (at < length src.now) }
-    ensures { result ≡ from (begin angle (get_or src.now at 0)) (get_or src.now at 0) (at + 1) src.now }
+    ensures { told result ≡ from (begin angle (get_or src.now at 0)) (get_or src.now at 0) (at + 1) src.now }
 {
     let b = src[at];
-    let k = class::class_of(table, b);
-    if k == Class::LETTER {
-        return ident::ident(src, table, at + 1);
+    let kind = class_of(table, b);
+    match kind {
+        SyntaxKind::IDENT_KW => ident::ident(src, table, at + 1),
+        SyntaxKind::WS => whitespace::whitespace(src, table, at + 1),
+        SyntaxKind::DIGITS => digits::digits(src, table, at + 1),
+        SyntaxKind::NEWLINE => Token {
+            kind,
+            end: at + newline::newline_at(src, at),
+        },
+        _ => punct::punct(src, table, at, b, kind, angle),
     }
-    if k == Class::WS {
-        return whitespace::whitespace(src, table, at + 1);
-    }
-    if k == Class::DIGIT {
-        return digits::digits(src, table, at + 1);
-    }
-    if k == Class::NEWLINE {
-        let w = text::newline::newline_at(src, at);
-        return Token {
-            kind: Kind::NEWLINE,
-            end: at + w,
-        };
-    }
-    punct::punct(src, table, at, b, k, angle)
 }
 
 // Whether an angle string is still expected after a token that begins with b.
-fn keeps(table: &[u8; 256], angle: bool, b: u8) -> bool
+fn keeps(table: &Classes, angle: bool, b: u8) -> bool
     requires { table.now ≡ class_table }
     ensures { result ≡ flag angle b }
 {
-    if angle {
-        if class::class_of(table, b) == Class::NEWLINE {
-            return false;
+    angle
+        && match class_of(table, b) {
+            SyntaxKind::NEWLINE => false,
+            _ => b != b'"' && b != b'<',
         }
-        if b == b'"' {
-            return false;
-        }
-        return b != b'<';
-    }
-    false
 }
 
 // Where the pre-lexer stands, and whether `<` opens a string.
@@ -75,15 +64,8 @@ pub struct PreLexer {
 // The kind of a token, and the state behind it, where the token ends.
 #[derive(Clone, Copy)]
 pub struct PreStep {
-    pub kind: u8,
+    pub kind: SyntaxKind,
     pub next: PreLexer,
-}
-
-// What a step answers: a token, or the end of the source.
-#[derive(Clone, Copy)]
-pub enum PreNext {
-    Token(PreStep),
-    End,
 }
 
 impl PreLexer {
@@ -97,23 +79,21 @@ impl PreLexer {
     }
 
     // The token where the pre-lexer stands, and the state behind it.
-    pub fn next(self, src: &[u8], table: &[u8; 256]) -> PreNext
+    pub fn next(self, src: &[u8], table: &Classes) -> Option<PreStep>
         requires { table.now ≡ class_table }
-        ensures { result ≡ pre_next self src.now }
+        ensures { stepped result ≡ pre_next self src.now }
     {
         let at = self.at;
-        let angle = self.angle;
         if src.len() <= at {
-            return PreNext::End;
+            return None;
         }
-        let t = token_at(src, table, at, angle);
-        let end = t.end;
-        let kind = name::name(src, at, end, t.kind);
-        let flag = keeps(table, angle, src[at]);
-        let next = PreLexer {
-            at: end,
-            angle: flag,
+        let token = token_at(src, table, at, self.angle);
+        let kind = name::name(src, at, token.end, token.kind);
+        let angle = keeps(table, self.angle, src[at]);
+        let next = Self {
+            at: token.end,
+            angle,
         };
-        PreNext::Token(PreStep { kind, next })
+        Some(PreStep { kind, next })
     }
 }

@@ -3,9 +3,10 @@ ghost use Rattle.std.specs.Prelude.{◌≡◌, ◌≤◌, ◌<◌, ◌-◌, leng
 ghost use Rattle.definition.specs.Text.{same};
 ghost use Rattle.definition.specs.Glue.{defined};
 ghost use Rattle.definition.specs.Unescaped.{unescaped};
+ghost use Rattle.syntax_kind.specs.Number.{number};
 ghost use Rattle.theorems.specs.Walk.{name_kind};
 
-use syntax_kind::kind::Kind;
+use syntax_kind::kind::SyntaxKind;
 
 // How many letters `defined` has, and its first.
 const LETTERS: usize = 7;
@@ -16,22 +17,16 @@ const FIRST: u8 = b'd';
 fn is_defined(text: &[u8]) -> bool
     ensures { result ≡ same (unescaped text.now) defined }
 {
-    if unescaped::may_be(text, LETTERS, FIRST) {
-        return unescaped::eq(text, b"defined");
-    }
-    false
+    unescaped::may_be(text, LETTERS, FIRST) && unescaped::eq(text, b"defined")
 }
 
 // The kind of a token, `defined` told from other identifiers.
-pub fn name(src: &[u8], at: usize, end: usize, kind: u8) -> u8
+pub fn name(src: &[u8], at: usize, end: usize, kind: SyntaxKind) -> SyntaxKind
     requires { (at < end) × (end ≤ length src.now) }
-    ensures { result ≡ name_kind kind (take (end - at) (drop at src.now)) }
+    ensures { number result ≡ name_kind (number kind) (take (end - at) (drop at src.now)) }
 {
-    if kind == Kind::IDENT_KW {
-        if is_defined(&src[at..end]) {
-            return Kind::DEFINED;
-        }
-        return Kind::IDENT_KW;
+    match kind {
+        SyntaxKind::IDENT_KW if is_defined(&src[at..end]) => SyntaxKind::DEFINED,
+        _ => kind,
     }
-    kind
 }
