@@ -29,7 +29,6 @@ use Rattle.pre.specs.Table.{class_number}
 use Rattle.pre.specs.Scan.{Token, from, told}
 use Rattle.pre.specs.declared.token.Token as code
 use Rattle.pre.proofs.Classes.{Within, digit_is, digit_within, closed_digit}
-use Rattle.glue.proofs.Begins.{entry_is}
 use Rattle.pre.proofs.States.{begin_digit, flag_kept}
 use Rattle.pre.proofs.Froms.{shut}
 use Rattle.glue.proofs.Peeks.{not_digits}

@@ -17,7 +17,6 @@ use Rattle.theorems.proofs.Lexing.Gluing.{glue_start}
 use Rattle.theorems.proofs.Lexing.Glues.{every, settled_none}
 use Rattle.theorems.proofs.Lexing.PreAt.{glue_settled}
 use Rattle.syntax_kind.specs.Number.{number}
-use Rattle.syntax_kind.specs.declared.kind.SyntaxKind.{SyntaxKind}
 use Rattle.syntax_kind.specs.declared.kind.SyntaxKind.TheVariants as kind
 use Rattle.syntax_kind.proofs.Numbers.{other_kind}
 use Rattle.pre.specs.Scan.{first, Step, pre_step, pre_next, stepped}
@@ -50,7 +49,7 @@ module _ (l : PreLexer) (s : List ℕ) (o : Option PreStep) (e : stepped o ≡ p
   ended z = go (ltb l.at (length s)) refl
     where
       go : (t : Bool) → ltb l.at (length s) ≡ t → length s ≤ l.at
-      go true h = absurd (none-some _ (ap stepped (sym z) ∙ e ∙ rw h))
+      go true h = absurd (none-some (pre_step l s) (ap stepped (sym z) ∙ e ∙ rw h))
       go false h = ltb-false _ _ h
 
 -- Nothing glues to the kinds before PERIOD, nor to those between HASH and LEFT_OP.
@@ -74,11 +73,12 @@ module _ (s : List ℕ) (l : Lexer) (o : Option PreStep) (e : stepped o ≡ pre_
 
   module _ (r : PreStep) (z : o ≡ Some r) where
     -- Else its pre-token begins a token,
-    began : Gluing s l.input.at l.input.angle (number r.kind) r.next.at r.next.angle
+    began_by : (t : Step) → Answered l.input s t → Gluing s l.input.at l.input.angle t.kind t.next.at t.next.angle
     unfolding pre_step
-    began =
-        let a : Answered l.input s (record { kind = number r.kind; next = r.next }) = answered l.input s o e r z in
-        glue_start _ _ _ _ _ _ (rw a.is (pre_from s l.input.at l.input.angle (first l.input s) a.inside refl))
+    began_by t a = glue_start _ _ _ _ _ _ (rw a.is (pre_from s l.input.at l.input.angle (first l.input s) a.inside refl))
+
+    began : Gluing s l.input.at l.input.angle (number r.kind) r.next.at r.next.angle
+    began = began_by (record { kind = number r.kind; next = r.next }) (answered l.input s o e r z)
 
     -- which is whole, or a PERIOD, or an operator that may go on.
     pub step_settled : (t : Bool) → t ≡ settled (number r.kind) → t ≡ true → Stepped s l.input.at l.input.angle (number r.kind) r.next.at r.next.angle

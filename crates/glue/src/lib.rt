@@ -30,9 +30,7 @@ pub struct Step {
 impl Step {
     // A token that ends there.
     fn new(kind: SyntaxKind, at: usize, angle: bool) -> Self
-        ensures kind { result.kind ≡ kind }
-        ensures at { result.next.input.at ≡ at }
-        ensures angle { result.next.input.angle ≡ angle }
+        ensures { result ≡ record { kind = kind; next = record { input = record { at = at; angle = angle } } } }
     {
         let next = Lexer {
             input: PreLexer { at, angle },
@@ -89,14 +87,7 @@ fn operator(
 }
 
 // A PERIOD that ends at `at`, with the number behind it. Of `start` and `flag` only the contract speaks.
-fn period(
-    src: &[u8],
-    table: &Classes,
-    start: usize,
-    flag: bool,
-    at: usize,
-    angle: bool,
-) -> Step
+fn period(src: &[u8], table: &Classes, start: usize, flag: bool, at: usize, angle: bool) -> Step
     requires table { table.now ≡ class_table }
     requires period { Gluing src.now start flag Kind.PERIOD at angle }
     ensures { Stepped src.now start flag (number result.kind) result.next.input.at result.next.input.angle }
@@ -115,6 +106,7 @@ fn period(
 }
 
 // Whether nothing glues to a token of this kind: a word, a number, a string, trivia, a NEWLINE or an ERROR.
+#[tactic(auto, unfolding(crate::specs::Next::settled))]
 fn settles(k: SyntaxKind) -> bool
     ensures { result ≡ settled (number k) }
 {

@@ -19,7 +19,7 @@ abbrev pub NoneOf : Type 0 → ℕ → List ℕ → Type 0
 NoneOf T a [] = T
 NoneOf T a (k ∷ ks) = NoneOf (T × (a ≡ k → ⊥)) a ks
 
-none_of : (T : Type 0) (a : ℕ) (ks : List ℕ) → NoneOf T a ks → T × (listed ks a ≡ false)
+pub none_of : (T : Type 0) (a : ℕ) (ks : List ℕ) → NoneOf T a ks → T × (listed ks a ≡ false)
 unfolding listed
 none_of T a [] n = (n, refl)
 none_of T a (k ∷ ks) n =

@@ -3,6 +3,7 @@ use Prim.Native.Nat.{ℕ, zero, suc, ◌+◌, ◌-◌, ◌≤◌, ◌<◌}
 use native.Mathlib.Omega.{arith}
 use native.Mathlib.Nat.{add-zero}
 use mathlib.Core.Path.{◌≡◌, refl, sym, ap, ◌∙◌}
+use mathlib.Core.Bool.{Bool, true, ◌&&◌, and-eq-true_iff}
 use mathlib.Core.List.{List, [], ◌∷◌, map}
 use lib.ListN.{get_or, length}
 use Rattle.syntax_kind.specs.Number.{number, numbered_kinds, kind_of}
@@ -142,3 +143,16 @@ pub numbered : (k : ℕ) (d : SyntaxKind) → 0 < k → k ≤ 86 → number (get
 numbered k d h l =
     let q : 1 + (k - 1) ≡ k = omega arith in
     in_order numbered_kinds 1 refl (k - 1) d (omega arith) ∙ q
+
+-- What a test says of every kind, it says of each.
+abbrev pub all_kinds : (SyntaxKind → Bool) → List SyntaxKind → Bool
+all_kinds p [] = true
+all_kinds p (k ∷ ks) = p k && all_kinds p ks
+
+all_at : (p : SyntaxKind → Bool) (ks : List SyntaxKind) (d : SyntaxKind) → p d ≡ true → all_kinds p ks ≡ true → (i : ℕ) → p (get_or ks i d) ≡ true
+all_at p [] d e h i = e
+all_at p (k ∷ ks) d e h zero = ((and-eq-true_iff (p k) (all_kinds p ks)).0 h).0
+all_at p (k ∷ ks) d e h (suc i) = all_at p ks d e ((and-eq-true_iff (p k) (all_kinds p ks)).0 h).1 i
+
+pub of_kinds : (p : SyntaxKind → Bool) → p kind.ERROR ≡ true → all_kinds p numbered_kinds ≡ true → (k : SyntaxKind) → p k ≡ true
+of_kinds p e h k = rw (again k) at (all_at p numbered_kinds kind.ERROR e h (Prim.Native.Nat.pred (number k)))
