@@ -5,7 +5,7 @@ pub mod lines;
 
 ghost use Rattle.std.specs.Prelude.{◌≡◌, ◌/◌};
 ghost use Rattle.definition.specs.Tree.{Width};
-ghost use Rattle.error.specs.Log.{log, add};
+ghost use Rattle.error.specs.Log.{number, met, log, add};
 
 use table::row::put_row;
 
@@ -22,25 +22,27 @@ const COLUMN: usize = 4;
 const UNLOCATED: u32 = 0;
 
 // The sorts of errors, by their numbers; Rust's third is never raised.
-#[derive(Clone, Copy)]
-pub struct ErrorKind {
-    pub number: u32,
+#[derive(Clone, Copy, PartialEq, Eq, Debug)]
+pub enum ErrorKind {
+    UnknownDirective = 1,
+    ExtraTokens = 2,
+    Unexpected = 4,
+    EndOfInput = 5,
 }
 
-impl ErrorKind {
-    pub const UNKNOWN_DIRECTIVE: u32 = 1;
+// The number that stands in the table.
+impl From<ErrorKind> for u32 {
+    ghost from_gives = { λ k n. n ≡ number k };
 
-    pub const EXTRA_TOKENS: u32 = 2;
-
-    pub const UNEXPECTED: u32 = 4;
-
-    pub const END_OF_INPUT: u32 = 5;
+    fn from(k: ErrorKind) -> u32 {
+        k as u32
+    }
 }
 
 // An error as it is met: its sort, its range, the actual kind, up to two expected kinds, and the range of a name; 0 where there is none.
 #[derive(Clone, Copy)]
 pub struct Fault {
-    pub sort: u32,
+    pub sort: ErrorKind,
     pub start: u32,
     pub end: u32,
     pub actual: u32,
@@ -51,14 +53,15 @@ pub struct Fault {
 }
 
 // Writes an error at n, if it has room, and gives the place of the next. Its line and column are filled in later.
+#[tactic(auto, unfolding(crate::specs::Log::add))]
 pub fn push_error(table: &mut [u32], n: usize, e: Fault) -> usize
-    ensures { log table.new result ≡ add e (log table.old n) }
+    ensures { log table.new result ≡ add (met e) (log table.old n) }
 {
     put_row(
         table,
         n,
         &[
-            e.sort,
+            e.sort.into(),
             e.start,
             e.end,
             UNLOCATED,
