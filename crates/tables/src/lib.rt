@@ -5,6 +5,7 @@ pub mod body;
 
 ghost use Rattle.std.specs.Prelude.{◌≡◌, ◌≤◌, length};
 ghost use Rattle.definition.specs.Calls.{refusal};
+ghost use Rattle.text.specs.Refusal.{number, code};
 ghost use Rattle.tables.specs.Decided.{ended_checks, Refused, cleared_behind, Fit, Finished};
 
 use text::refusal::Refusal;
@@ -32,34 +33,40 @@ pub struct Ends {
     pub lines: usize,
 }
 
-// The refusal of a reading that ended there, with tables of these lengths; NONE: it is not refused.
-pub fn shortage(ends: Ends, entries: usize, errors: usize, lines: usize) -> u32
-    ensures { result ≡ refusal (ended_checks ends entries errors lines) }
+// The refusal of a reading that ended there, with tables of these lengths, if there is one.
+#[tactic(auto, unfolding(definition::specs::Calls::refusal))]
+pub fn shortage(ends: Ends, entries: usize, errors: usize, lines: usize) -> Result<(), Refusal>
+    ensures { code result ≡ refusal (ended_checks ends entries errors lines) }
 {
     if ends.over {
-        return Refusal::CONCATS;
+        return Err(Refusal::Concats);
     }
     if entries < ends.entries {
-        return Refusal::ENTRIES;
+        return Err(Refusal::Entries);
     }
     if errors < ends.errors {
-        return Refusal::ERRORS;
+        return Err(Refusal::Errors);
     }
     if lines < ends.lines {
-        return Refusal::LINES;
+        return Err(Refusal::Lines);
     }
-    Refusal::NONE
+    Ok(())
 }
 
 // A refused reading: all tables are cleared.
-pub fn refused(entries: &mut [u32], errors: &mut [u32], lines: &mut [u32], refusal: u32) -> Reading
-    ensures { Refused refusal (length entries.old) (length errors.old) (length lines.old) result entries.new errors.new lines.new }
+pub fn refused(
+    entries: &mut [u32],
+    errors: &mut [u32],
+    lines: &mut [u32],
+    refusal: Refusal,
+) -> Reading
+    ensures { Refused (number refusal) (length entries.old) (length errors.old) (length lines.old) result entries.new errors.new lines.new }
 {
     table::clear(entries);
     table::clear(errors);
     table::clear(lines);
     Reading {
-        refusal,
+        refusal: refusal.into(),
         entries: 0,
         errors: 0,
         lines: 0,
@@ -80,12 +87,12 @@ pub fn finished(entries: &mut [u32], errors: &mut [u32], lines: &mut [u32], ends
     ensures { Finished ends entries.old errors.old lines.old result entries.new errors.new lines.new }
 {
     let count = error::count(ends.errors);
-    error::lines::resolve(errors, count, lines, ends.lines);
+    error::lines::resolve(&mut errors[..ends.errors], &lines[..ends.lines]);
     clear_behind(entries, ends.entries);
     clear_behind(errors, ends.errors);
     clear_behind(lines, ends.lines);
     Reading {
-        refusal: Refusal::NONE,
+        refusal: 0,
         entries: (ends.entries / ENTRY) as u32,
         errors: count as u32,
         lines: ends.lines as u32,
