@@ -1,5 +1,4 @@
 pub mod Patch
-pub mod Steps
 pub mod Runs
 pub mod Writes
 pub mod LentTail

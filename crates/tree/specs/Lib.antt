@@ -1,3 +1,4 @@
+pub mod Forms
 pub mod Machine
 pub mod Tail
 pub mod Writes

@@ -13,44 +13,33 @@ pub const OPEN_LEVELS: usize = MOST_CONCATS as usize + 4;
 pub fn levels() -> [usize; OPEN_LEVELS]
     ensures { result ≡ replicate open_levels 0 }
 {
-    [0usize; OPEN_LEVELS]
+    [0; OPEN_LEVELS]
 }
 
 // The place of the open node at level d.
 pub fn at(levels: &[usize; OPEN_LEVELS], d: u32) -> usize
     ensures { result ≡ level_at levels.now d }
 {
-    if (d as usize) < OPEN_LEVELS {
-        return levels[d as usize];
-    }
-    0
+    levels.get(d as usize).copied().unwrap_or(0)
 }
 
 // Puts the place n in at level d.
 pub fn put(levels: &mut [usize; OPEN_LEVELS], d: u32, n: usize)
     ensures { levels.new ≡ set_level levels.old d n }
 {
-    if (d as usize) < OPEN_LEVELS {
-        levels[d as usize] = n;
-    }
+    table::put(levels, d as usize, n);
 }
 
 // One level deeper, if there is one.
 pub fn deeper(d: u32) -> u32
     ensures { result ≡ one_deeper d }
 {
-    if (d as usize) < OPEN_LEVELS {
-        return d + 1;
-    }
-    d
+    if (d as usize) < OPEN_LEVELS { d + 1 } else { d }
 }
 
 // One level higher, if there is one.
 pub fn higher(d: u32) -> u32
     ensures { result ≡ d - 1 }
 {
-    if d == 0 {
-        return 0;
-    }
-    d - 1
+    d.saturating_sub(1)
 }

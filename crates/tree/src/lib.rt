@@ -9,6 +9,7 @@ ghost use Rattle.std.specs.Prelude.{◌≡◌};
 ghost use Rattle.tree.specs.Machine.{sheet, leafed, writer, pen_at, step, Open, Shut};
 ghost use Rattle.tree.specs.Tail.{at_front};
 
+use crate::entry::Entry;
 use crate::level::OPEN_LEVELS;
 
 // Where the writer stands: how many numbers of the whole table lie before the part that it writes into, the place of the next entry in that
@@ -41,36 +42,24 @@ impl Pen {
         Self {
             base: tail::base(self.base, a),
             n: 0,
-            depth: self.depth,
-            pos: self.pos,
+            ..self
         }
     }
 }
 
 // A node begins. Its kind and its end are put in when it ends.
+#[tactic(auto, unfolding(crate::specs::Machine::step))]
 pub fn start_node(table: &mut [u32], levels: &mut [usize; OPEN_LEVELS], pen: Pen) -> Pen
     ensures { writer table.new levels.new result ≡ step Open (writer table.old levels.old pen) }
 {
     let depth = level::deeper(pen.depth);
-    let n = entry::put(
-        table,
-        pen.n,
-        entry::NODE,
-        entry::OPEN_KIND,
-        pen.depth,
-        pen.pos,
-        pen.pos,
-    );
+    let n = entry::put(table, pen.n, Entry::open(pen.depth, pen.pos));
     level::put(levels, pen.depth, pen.n);
-    Pen {
-        base: pen.base,
-        n,
-        depth,
-        pos: pen.pos,
-    }
+    Pen { n, depth, ..pen }
 }
 
 // The innermost open node ends; it has this kind.
+#[tactic(auto, unfolding(crate::specs::Machine::step))]
 pub fn finish_node(table: &mut [u32], levels: &mut [usize; OPEN_LEVELS], pen: Pen, kind: u32) -> Pen
     ensures { writer table.new levels.new result ≡ step (Shut kind) (writer table.old levels.old pen) }
 {
@@ -78,23 +67,14 @@ pub fn finish_node(table: &mut [u32], levels: &mut [usize; OPEN_LEVELS], pen: Pe
     let n = level::at(levels, depth);
     entry::patch(table, n, kind, pen.pos);
     level::put(levels, depth, 0);
-    Pen {
-        base: pen.base,
-        n: pen.n,
-        depth,
-        pos: pen.pos,
-    }
+    Pen { depth, ..pen }
 }
 
 // A leaf.
+#[tactic(auto, unfolding(crate::specs::Machine::leafed))]
 pub fn leaf(table: &mut [u32], pen: Pen, kind: u32, start: u32, end: u32) -> Pen
     ensures { sheet table.new result ≡ leafed kind start end (sheet table.old pen) }
 {
-    let n = entry::put(table, pen.n, entry::LEAF, kind, pen.depth, start, end);
-    Pen {
-        base: pen.base,
-        n,
-        depth: pen.depth,
-        pos: end,
-    }
+    let n = entry::put(table, pen.n, Entry::leaf(kind, pen.depth, start, end));
+    Pen { n, pos: end, ..pen }
 }

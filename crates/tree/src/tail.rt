@@ -9,33 +9,23 @@ use table::row::FAR;
 pub fn start(room: usize, n: usize) -> usize
     ensures { result ≡ tail_start room n }
 {
-    if n < room {
-        return n;
-    }
-    room
+    n.min(room)
 }
 
 // How many numbers of the whole table lie before the tail that begins at a of a part, where `before` lie before the part; FAR: more than a table has.
 pub fn base(before: usize, a: usize) -> usize
     ensures { result ≡ tail_base before a }
 {
-    if FAR - before < a {
-        return FAR;
-    }
-    before + a
+    before.saturating_add(a)
 }
 
 // The place m of the tail from n, counted from the front of the table.
+#[tactic(auto, unfolding(crate::specs::Tail::behind))]
 fn behind(room: usize, n: usize, m: usize) -> usize
     ensures { result ≡ behind room n m }
 {
-    if room < n {
-        return FAR;
-    }
-    if room - n < m {
-        return FAR;
-    }
-    n + m
+    let place = n.saturating_add(m);
+    if room < place { FAR } else { place }
 }
 
 // A pen that wrote into the tail of a table, on that table again; `before` is the pen that stood there when the tail was handed on.
@@ -45,7 +35,6 @@ pub fn rejoin(room: usize, before: Pen, pen: Pen) -> Pen
     Pen {
         base: before.base,
         n: behind(room, before.n, pen.n),
-        depth: pen.depth,
-        pos: pen.pos,
+        ..pen
     }
 }
