@@ -64,9 +64,6 @@ length_resolved lines (suc k) n t = length_resolved lines k (n + Width.error) (l
 pub record Resolving (lines t₀ : List ℕ) (count : ℕ) (t : List ℕ) (k : ℕ) : Type 0 where
   pub same : resolved lines t₀ 0 count ≡ resolved lines t (Width.error * k) (count - k)
 
-pub begin : (lines t : List ℕ) (count : ℕ) → Resolving lines t count t 0
-begin lines t count = let z : count - 0 ≡ count = omega arith in record { same = rw z }
-
 module _ (lines t₀ : List ℕ) (count : ℕ) (t : List ℕ) (k : ℕ) (r : Resolving lines t₀ count t k) where
   pub over : count ≤ k → t ≡ resolved lines t₀ 0 count
   unfolding resolved
