@@ -7,6 +7,7 @@ use Rattle.definition.specs.Parser.{Reader}
 use Rattle.definition.specs.Calls.{longest_source}
 use Rattle.theorems.specs.BodyRows.{ends}
 use Rattle.theorems.specs.LeavesFrom.{leaves_from}
+use Rattle.syntax_kind.specs.declared.kind.SyntaxKind.{SyntaxKind}
 use Rattle.pre.specs.Table.{class_table}
 use Rattle.tree.specs.Machine.{sheet, leafs}
 use Rattle.tree.specs.declared.Pen.{Pen}
@@ -43,7 +44,7 @@ abbrev pub inlined : ℕ → Bool  -- A leaf other than NEWLINE.
 inlined k = not (ends k)
 
 -- What every function here asks: the table of classes, a source that is not refused for its length, and a leaf that is held.
-pub record Reading (src classes : List ℕ) (s : Seen) : Type 0 where
+pub record Reading (src : List ℕ) (classes : List SyntaxKind) (s : Seen) : Type 0 where
   pub table : classes ≡ class_table
   pub short : length src ≤ longest_source
   pub held : Held src s
