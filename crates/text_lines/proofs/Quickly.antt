@@ -1,13 +1,15 @@
 -- Tokens that are seen at once: words, numbers, blanks, and single characters to which nothing glues.
 use Prim.Native.Nat.{ℕ, ◌+◌, ◌-◌, ◌≤◌, ◌<◌}
 use mathlib.Core.Path.{◌≡◌, refl, sym, ap, ◌∙◌}
-use mathlib.Core.Bool.{Bool, true, false, ◌&&◌, ◌||◌, false≢true, and-eq-true_iff}
-use mathlib.Core.List.{List}
+use mathlib.Core.Bool.{Bool, true, false, not, ◌&&◌, ◌||◌, false≢true, and-eq-true_iff}
+use mathlib.Core.List.{List, [], ◌∷◌}
 use native.Mathlib.Omega.{arith}
 use native.Mathlib.Decide.{dec_lt}
-use lib.Dec.{eqb, leb}
+use lib.Dec.{eqb, leb, ltb}
+use denote.Enum.Bare.{sameb, same_false}
+use mathlib.Core.Logic.{◌⊎◌, inl, inr}
 use lib.ListN.{length, take, drop, get_or}
-use borrow.Author.Tests.{eqb-true, leb-true}
+use borrow.Author.Tests.{eqb-true, eqb-false, leb-true, ltb-true, not-true}
 use Rattle.definition.specs.Text.{ascii, byte}
 use Rattle.definition.specs.SyntaxKind.{Kind}
 use Rattle.definition.specs.Newline.{blank, class}
@@ -19,10 +21,11 @@ use Rattle.theorems.proofs.Lexing.Gluing.{glue_start}
 use Rattle.theorems.proofs.Lexing.PreAt.{glue_over, glue_settled}
 use Rattle.theorems.proofs.Lexing.Open.{Open, In, word, number as numeral, blanks_only, Kinds, open_kind, quiet, quiet_settled, quiet_no_linecont, open_quiet}
 use Rattle.syntax_kind.specs.Number.{number}
+use Rattle.syntax_kind.specs.contracts.kind.SyntaxKind.{the_type}
 use Rattle.syntax_kind.specs.declared.kind.SyntaxKind.{SyntaxKind}
 use Rattle.syntax_kind.specs.declared.kind.SyntaxKind.TheVariants as kind
 use Rattle.syntax_kind.proofs.Numbers.{other_kind}
-use Rattle.pre.specs.Table.{ClassNumber, punct, class_number, class_number_of}
+use Rattle.pre.specs.Table.{ClassNumber, IsPunct, punct, class_number, class_number_of}
 use Rattle.pre.specs.Scan.{Token, told, from}
 use Rattle.pre.specs.declared.token.Token as code
 use Rattle.pre.proofs.Classes.{Closed, Within, letter_is, digit_is, blank_is, letter_within, digit_within, class_kind, closed_letter, closed_digit, closed_blank, closed_punct}
@@ -65,27 +68,68 @@ single_of c = go (leb Kind.LBRACKET c && leb c Kind.RBRACE) (eqb c Kind.TILDE) r
         let h = (and-eq-true_iff (leb Kind.COLON c) (leb c Kind.QUESTION)).0 e in
         settled_single Kind.COLON Kind.QUESTION c refl (omega arith) (omega arith) (leb-true _ _ h.0) (leb-true _ _ h.1)
 
+-- A kind is one of a row, as an arm of a match tells.
+abbrev pub OneOf : SyntaxKind → List SyntaxKind → Type 0
+OneOf k [] = ⊥
+OneOf k (x ∷ []) = k ≡ x
+OneOf k (x ∷ y ∷ ys) = (k ≡ x) ⊎ OneOf k (y ∷ ys)
+
+abbrev all_pass : (ℕ → Bool) → List SyntaxKind → Bool
+all_pass p [] = true
+all_pass p (x ∷ xs) = p (number x) && all_pass p xs
+
+one_of : (p : ℕ → Bool) (k : SyntaxKind) (ks : List SyntaxKind) → all_pass p ks ≡ true → OneOf k ks → p (number k) ≡ true
+one_of p k [] h o = absurd o
+one_of p k (x ∷ []) h o = rw o ((and-eq-true_iff (p (number x)) true).0 h).0
+one_of p k (x ∷ y ∷ ys) h (inl e) = rw e ((and-eq-true_iff (p (number x)) (all_pass p (y ∷ ys))).0 h).0
+one_of p k (x ∷ y ∷ ys) h (inr o) = one_of p k (y ∷ ys) ((and-eq-true_iff (p (number x)) (all_pass p (y ∷ ys))).0 h).1 o
+
+abbrev pub single_kinds : List SyntaxKind
+single_kinds =
+    kind.LBRACKET ∷ kind.RBRACKET ∷ kind.LPAREN ∷ kind.RPAREN ∷ kind.LBRACE ∷ kind.RBRACE ∷ kind.TILDE ∷ kind.COLON ∷ kind.SEMICOLON ∷ kind.COMMA ∷
+    kind.QUESTION ∷ []
+
+pub single_kind : (k : SyntaxKind) → OneOf k single_kinds → Single (number k)
+single_kind k o = single_of (number k) (one_of singles k single_kinds refl o)
+
 -- An operator, or a PERIOD, by the kind of what follows.
-module _ (c d : ℕ) where
-  pub alone_period : c ≡ Kind.PERIOD → (d ≡ ClassNumber.DIGIT → ⊥) → Alone c d
-  alone_period z n = record {
+module _ (c d : SyntaxKind) where
+  pub alone_period : c ≡ kind.PERIOD → not (sameb the_type d kind.DIGITS) ≡ true → Alone (number c) (number d)
+  alone_period z n = rw z (record {
     low = omega arith;
     high = omega arith;
     no_slash = λ y. omega arith;
     no_less = λ y. omega arith;
-    no_number = λ y e. n e;
-    no_glue = λ m. absurd (m z);
-  }
+    no_number = λ y e. other_kind d kind.DIGITS (same_false the_type d kind.DIGITS (not-true _ n)) e;
+    no_glue = λ m. absurd (m refl);
+  })
 
-  pub alone_operator : Kind.PERIOD < c → c ≤ Kind.HASH → (c ≡ Kind.SLASH → ⊥) → (c ≡ Kind.LANGLE → ⊥) → (d ≡ Kind.EQUAL → ⊥) → (d ≡ c → ⊥) → Alone c d
-  alone_operator l h s a e z = record {
-    low = omega arith;
-    high = h;
-    no_slash = s;
-    no_less = a;
-    no_number = λ y. absurd (omega arith);
-    no_glue = λ y. none_kind c d (other_none c d e (λ x. z (sym x)) (λ x w. y x));
-  }
+  abbrev operators : ℕ → Bool
+  operators n = ltb Kind.PERIOD n && (leb n Kind.HASH && (not (eqb n Kind.SLASH) && not (eqb n Kind.LANGLE)))
+
+  abbrev pub operator_kinds : List SyntaxKind
+  operator_kinds =
+      kind.PLUS ∷ kind.DASH ∷ kind.ASTERISK ∷ kind.PERCENT ∷ kind.RANGLE ∷ kind.CARET ∷ kind.BAR ∷ kind.AMPERSAND ∷ kind.EQUAL ∷ kind.BANG ∷ kind.HASH ∷ []
+
+  alone_by : operators (number c) ≡ true → (number d ≡ Kind.EQUAL → ⊥) → (number d ≡ number c → ⊥) → Alone (number c) (number d)
+  alone_by h e z =
+      let p = (and-eq-true_iff (ltb Kind.PERIOD (number c)) _).0 h in
+      let q = (and-eq-true_iff (leb (number c) Kind.HASH) _).0 p.1 in
+      let r = (and-eq-true_iff (not (eqb (number c) Kind.SLASH)) _).0 q.1 in
+      let l : Kind.PERIOD < number c = ltb-true _ _ p.0 in
+      record {
+        low = omega arith;
+        high = leb-true _ _ q.0;
+        no_slash = eqb-false _ _ (not-true _ r.0);
+        no_less = eqb-false _ _ (not-true _ r.1);
+        no_number = λ y. absurd (omega arith);
+        no_glue = λ y. none_kind (number c) (number d) (other_none (number c) (number d) e (λ x. z (sym x)) (λ x w. y x));
+      }
+
+  pub alone_operator : OneOf c operator_kinds → not (sameb the_type d kind.EQUAL) ≡ true → not (sameb the_type d c) ≡ true → Alone (number c) (number d)
+  alone_operator o e z =
+      alone_by (one_of operators c operator_kinds refl o) (other_kind d kind.EQUAL (same_false the_type d kind.EQUAL (not-true _ e)))
+      (other_kind d c (same_false the_type d c (not-true _ z)))
 
 -- A character that is a token alone.
 module _ (s : List ℕ) (at : ℕ) (h : at < length s) (k : SyntaxKind) (y : number k ≡ class_number (get_or s at 0)) where
@@ -117,31 +161,28 @@ module _ (s : List ℕ) (at : ℕ) (h : at < length s) (k : SyntaxKind) (y : num
       no_blank = λ z. omega (arith, y, a.high);
     }
 
-    no_letter : k ≡ kind.IDENT_KW → ⊥
-    no_letter z = mark.no_letter (sym y ∙ ap number z)
-
-    no_digit : k ≡ kind.DIGITS → ⊥
-    no_digit z = mark.no_digit (sym y ∙ ap number z)
-
-    no_newline : k ≡ kind.NEWLINE → ⊥
-    no_newline z = mark.no_newline (sym y ∙ ap number z)
-
-    no_blank : k ≡ kind.WS → ⊥
-    no_blank z = mark.no_blank (sym y ∙ ap number z)
+    is_punct : IsPunct k
+    is_punct = record {
+      no_letter = λ z. mark.no_letter (sym y ∙ ap number z);
+      no_digit = λ z. mark.no_digit (sym y ∙ ap number z);
+      no_newline = λ z. mark.no_newline (sym y ∙ ap number z);
+      no_blank = λ z. mark.no_blank (sym y ∙ ap number z);
+    }
 
     narrow : b < 192
     narrow = elim (dec_lt b 192) [ yes u ↦ u | no u ↦ absurd (omega (arith, wide_error b (omega arith) mark, y, a.high)) ]
 
     pre_alone : (f : Bool) → PreStepped s at f c (at + 1) f
     pre_alone f =
-        let q : begin f b ≡ done (class_number b) = begin_punct b k f y no_letter no_digit no_newline no_blank plain ∙ ap done y in
-        let w : flag f b ≡ f = flag_kept b k f y no_newline plain.no_quote plain.no_less in
-        rw (← y) at (single_at s at f h q mark.no_letter w (closed_punct b k y no_newline narrow))
+        let q : begin f b ≡ done (class_number b) = begin_punct b k f y is_punct plain ∙ ap done y in
+        let w : flag f b ≡ f = flag_kept b k f y is_punct.no_newline plain.no_quote plain.no_less in
+        rw (← y) at (single_at s at f h q mark.no_letter w (closed_punct b k y is_punct.no_newline narrow))
 
     stepped_alone : d ≡ class_number (get_or s (at + 1) 0) → (f : Bool) → Stepped s at f c (at + 1) f
     stepped_alone e f = elim (dec_lt (at + 1) (length s)) [
       | yes l ↦ either (Stepped s at f c (at + 1) f) c Kind.PERIOD
-          (λ z. rw z (period_other s at f (at + 1) f (rw z at gluing) l d e (λ w. a.no_number z w)))
+          (λ z. rw z (period_other s at f (at + 1) f (rw z at gluing) l (entry (get_or s (at + 1) 0)) (class_kind (get_or s (at + 1) 0))
+          (entry_not (get_or s (at + 1) 0) kind.DIGITS (λ w. a.no_number z (e ∙ w)))))
           (λ n. peek_none s at f c (at + 1) f (record { gluing = gluing; other = n }) l 0 (zero_by f (get_or s (at + 1) 0) c (rw (← e) (a.no_glue n))) refl)
       | no l ↦ glue_over s at f c (at + 1) f gluing (omega arith)
     ]

@@ -43,7 +43,7 @@ fn unglued(c: SyntaxKind, d: SyntaxKind) -> bool
     ensures { result ≡ true → Alone (number c) (number d) }
 {
     match c {
-        SyntaxKind::PERIOD => !matches!(d, SyntaxKind::DIGITS),
+        SyntaxKind::PERIOD => d != SyntaxKind::DIGITS,
         SyntaxKind::PLUS
         | SyntaxKind::DASH
         | SyntaxKind::ASTERISK
@@ -54,7 +54,7 @@ fn unglued(c: SyntaxKind, d: SyntaxKind) -> bool
         | SyntaxKind::AMPERSAND
         | SyntaxKind::EQUAL
         | SyntaxKind::BANG
-        | SyntaxKind::HASH => !matches!(d, SyntaxKind::EQUAL) && d != c,
+        | SyntaxKind::HASH => d != SyntaxKind::EQUAL && d != c,
         _ => false,
     }
 }
@@ -66,14 +66,15 @@ fn quick_punct(src: &[u8], classes: &Classes, at: usize, c: SyntaxKind) -> Optio
     requires class { number c ≡ class_number (get_or src.now at 0) }
     ensures { IfSome result (Quick src.now at) }
 {
-    if single(c) || unglued(c, class_of(classes, byte_at(src, at + 1))) {
-        Some(Token {
-            kind: c,
-            end: at + 1,
-        })
-    } else {
-        None
+    let whole = Token {
+        kind: c,
+        end: at + 1,
+    };
+    if single(c) {
+        return Some(whole);
     }
+    let d = class_of(classes, byte_at(src, at + 1));
+    if unglued(c, d) { Some(whole) } else { None }
 }
 
 // The token at a place that begins with a character of class c, where it is seen at once: a word, blanks, a number or one character. It is no
