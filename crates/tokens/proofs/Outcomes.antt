@@ -1,5 +1,6 @@
 -- The outcomes of listing tokens, where their numbers were laid from the front of the table to the place n.
-use Rattle.std.specs.Prelude.{⊤, Result, Ok, Err}
+use Rattle.std.specs.Prelude.{⊤, Result, Ok, Err, is_err, IfOk}
+use mathlib.Core.Bool.{true, false, false≢true}
 use Prim.Native.Nat.{ℕ, ◌*◌, ◌/◌, ◌-◌, ◌≤◌, ◌<◌}
 use native.Mathlib.Omega.{arith}
 use mathlib.Core.Path.{◌≡◌, refl, ap, sym, ◌∙◌}
@@ -11,7 +12,7 @@ use lib.Seq.{sets}
 use borrow.Rule.Slice.PartMut.{put_mid}
 use Rattle.definition.specs.Glue.{tokens, token_numbers}
 use Rattle.definition.specs.Tree.{Width}
-use Rattle.definition.specs.Calls.{longest_source, refusal, source_checks, listing_tokens, filled, padded}
+use Rattle.definition.specs.Calls.{longest_source, refusal, source_checks, listing_tokens, Filled, filled, padded}
 use Rattle.theorems.proofs.Refusals.{length_tokens}
 use Rattle.theorems.proofs.Lexing.Tokens.{few_tokens}
 use Rattle.table.specs.Row.{far, Page, page, Laid}
@@ -22,7 +23,10 @@ use Rattle.text.proofs.Refusals.{source_length}
 use Rattle.text.specs.Refusal.{number, code}
 use Rattle.text.specs.declared.refusal.Refusal.{Refusal}
 use Rattle.text.specs.declared.refusal.Refusal.TheVariants.{Entries}
-use Rattle.table.proofs.Outcomes.{refused_first, short_second, none_refused}
+use Rattle.table.proofs.Outcomes.{refused_fills, refused_first, short_second, none_refused}
+use Rattle.text.specs.Answers.{Answers}
+use Rattle.text.specs.declared.Counted.{Counted}
+use Rattle.table.specs.Fills.{Fills}
 use Rattle.tokens.specs.Listed.{Listed}
 
 -- A source is refused first.
@@ -75,3 +79,13 @@ module _ (src : List ℕ) (room n : ℕ) (o : Result ⊤ Refusal) (e : code o �
 
     pub count_fits : Fits w32 (n / Width.token)
     count_fits = omega (arith, count, few)
+
+-- What is answered where nothing is refused, and where something is.
+pub list_whole : (f : Filled) (o : Result ℕ Refusal) (r : Counted) (t : List ℕ) → is_err o ≡ false → code o ≡ f.refused → Answers o r → IfOk o (Listed f t) → Fills f r t
+list_whole f (Err x) r t h e a l = absurd (false≢true (sym h))
+list_whole f (Ok n) r t h e a l = record { refusal_is = a.refusal_is ∙ e; count_is = a.count_is ∙ l.count_is; table_is = l.table_is }
+
+pub list_refused : (src : List ℕ) (room : ℕ) (o : Result ℕ Refusal) (r : Counted) (t : List ℕ) → is_err o ≡ true → code o ≡ (listing_tokens src room).refused
+    → Answers o r → t ≡ zeros room → Fills (listing_tokens src room) r t
+unfolding listing_tokens
+list_refused src room o r t h e a q = refused_fills _ _ (token_numbers 0 (tokens false src)) room r t o h e a q

@@ -5,7 +5,7 @@ use Rattle.text_lines.proofs.quick.Goals as goal
 pub name-kind-requires : goal.name-kind-requires
 name-kind-requires c = (
   word_after c.args.src.now c.args.at c.word-t.result c.requires.within c.word-t.ensures,
-  word_within c.args.src.now c.args.at c.word-t.result c.requires.within c.word-t.ensures
+  word_within c.args.src.now c.args.at c.word-t.result c.requires.within c.word-t.ensures,
 )
 
 pub returns-in-IDENT_KW : goal.returns-in-IDENT_KW
