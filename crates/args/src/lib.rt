@@ -8,7 +8,8 @@ ghost use Rattle.parser_run.specs.Reads.{stand, Reads};
 ghost use Rattle.args.specs.Args.{opening, closing, place, Lists};
 
 use parser_run::ParserRun;
-use syntax_kind::kind::Kind;
+use pre::class::Classes;
+use syntax_kind::number::Kind;
 use tree::level::OPEN_LEVELS;
 
 // What an argument list waits for beside RPAREN: an identifier, or else a comma.
@@ -51,7 +52,7 @@ pub struct Listed {
 // One place of the list: an argument in its node, or a comma, or the end.
 fn place(
     src: &[u8],
-    classes: &[u8; 256],
+    classes: &Classes,
     table: &mut [u32],
     levels: &mut [usize; OPEN_LEVELS],
     errors: &mut [u32],
@@ -88,7 +89,7 @@ fn place(
 // The argument list behind its LPAREN: identifiers and commas in turn, up to RPAREN, a NEWLINE or the end.
 fn args(
     src: &[u8],
-    classes: &[u8; 256],
+    classes: &Classes,
     table: &mut [u32],
     levels: &mut [usize; OPEN_LEVELS],
     errors: &mut [u32],
@@ -116,7 +117,7 @@ fn args(
 // One node over the argument list, from its LPAREN on: ERROR if it has an error.
 pub fn define_args(
     src: &[u8],
-    classes: &[u8; 256],
+    classes: &Classes,
     table: &mut [u32],
     levels: &mut [usize; OPEN_LEVELS],
     errors: &mut [u32],

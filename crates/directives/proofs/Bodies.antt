@@ -26,6 +26,7 @@ use Rattle.parser_run.specs.declared.ParserRun.{ParserRun}
 use Rattle.parser_run.specs.Reads.{with_run, Quiet}
 use Rattle.parser_run.proofs.Parts.{ready}
 use Rattle.directives.specs.Again.{Again}
+use Rattle.syntax_kind.specs.declared.kind.SyntaxKind.{SyntaxKind}
 
 -- The leaf that is seen is lexed again from where it starts.
 module _ (src : List ℕ) (x : Seen) (h : Held src x) where
@@ -67,7 +68,7 @@ body_read {st = st} {b} h z w = record {
 
 -- A path behind `include`.
 module _ {src : List ℕ} {st a : ParserRun} {x : Seen} {r : Run} (g : Again src st.run.seen x) (i : r ≡ run_of x st.run.pen) (j : a ≡ with_run st r) where
-  pub ready_again : {classes : List ℕ} → Reading src classes st.run.seen → Reading src classes a.run.seen
+  pub ready_again : {classes : List SyntaxKind} → Reading src classes st.run.seen → Reading src classes a.run.seen
   ready_again d = rw (j, i) (ready d g.held)
 
   pub include_read : {t o t' o' : List ℕ} {st' : ParserRun} → Quiet src (pp_body Kind.PP_INCLUDE_PATH) t o a t' o' st' → Quiet src (pp_include (length src) relexed) t o st t' o' st'

@@ -8,11 +8,12 @@ ghost use Rattle.directives.specs.Again.{Again};
 
 use parser::Seen;
 use parser_run::ParserRun;
-use syntax_kind::kind::Kind;
+use pre::class::Classes;
+use syntax_kind::number::Kind;
 use tree::level::OPEN_LEVELS;
 
 // Sees a leaf once more, where an angle string is expected (`set_expect_angle_string`).
-fn again(src: &[u8], classes: &[u8; 256], x: Seen) -> Seen
+fn again(src: &[u8], classes: &Classes, x: Seen) -> Seen
     requires { Reading src.now classes.now x }
     ensures { Again src.now x result }
 {
@@ -25,7 +26,7 @@ fn again(src: &[u8], classes: &[u8; 256], x: Seen) -> Seen
 // Trivia, and a body of kind k.
 pub fn pp_body(
     src: &[u8],
-    classes: &[u8; 256],
+    classes: &Classes,
     table: &mut [u32],
     levels: &mut [usize; OPEN_LEVELS],
     state: ParserRun,
@@ -46,7 +47,7 @@ pub fn pp_body(
 // `include`: the path, where an angle string is expected.
 pub fn pp_include(
     src: &[u8],
-    classes: &[u8; 256],
+    classes: &Classes,
     table: &mut [u32],
     levels: &mut [usize; OPEN_LEVELS],
     state: ParserRun,

@@ -7,13 +7,14 @@ ghost use Rattle.directives.specs.Next.{define_head as Next·define_head};
 
 use crate::body;
 use parser_run::ParserRun;
-use syntax_kind::kind::Kind;
+use pre::class::Classes;
+use syntax_kind::number::Kind;
 use tree::level::OPEN_LEVELS;
 
 // The name of a macro, and its arguments if LPAREN follows with no trivia.
 fn define_head(
     src: &[u8],
-    classes: &[u8; 256],
+    classes: &Classes,
     table: &mut [u32],
     levels: &mut [usize; OPEN_LEVELS],
     errors: &mut [u32],
@@ -33,7 +34,7 @@ fn define_head(
 // `define`: the name with its arguments, and a body.
 pub fn pp_define(
     src: &[u8],
-    classes: &[u8; 256],
+    classes: &Classes,
     table: &mut [u32],
     levels: &mut [usize; OPEN_LEVELS],
     errors: &mut [u32],

@@ -13,13 +13,14 @@ ghost use Rattle.parser_run.specs.Reads.{stand, Reads};
 ghost use Rattle.directives.specs.Next.{expect_next as Next·expect_next, expect_node as Next·expect_node};
 
 use parser_run::ParserRun;
-use syntax_kind::kind::Kind;
+use pre::class::Classes;
+use syntax_kind::number::Kind;
 use tree::level::OPEN_LEVELS;
 
 // Trivia, and a leaf of kind k.
 fn expect_next(
     src: &[u8],
-    classes: &[u8; 256],
+    classes: &Classes,
     table: &mut [u32],
     levels: &mut [usize; OPEN_LEVELS],
     errors: &mut [u32],
@@ -36,7 +37,7 @@ fn expect_next(
 // Trivia, and a node over a leaf of kind k.
 fn expect_node(
     src: &[u8],
-    classes: &[u8; 256],
+    classes: &Classes,
     table: &mut [u32],
     levels: &mut [usize; OPEN_LEVELS],
     errors: &mut [u32],
@@ -56,7 +57,7 @@ fn expect_node(
 // `undef`, `ifdef`, `ifndef`: an identifier.
 pub fn pp_if_ident(
     src: &[u8],
-    classes: &[u8; 256],
+    classes: &Classes,
     table: &mut [u32],
     levels: &mut [usize; OPEN_LEVELS],
     errors: &mut [u32],
@@ -80,7 +81,7 @@ pub fn pp_if_ident(
 // `version`: a number, maybe a profile.
 pub fn pp_version(
     src: &[u8],
-    classes: &[u8; 256],
+    classes: &Classes,
     table: &mut [u32],
     levels: &mut [usize; OPEN_LEVELS],
     errors: &mut [u32],
@@ -110,7 +111,7 @@ pub fn pp_version(
 // `extension`: a name, a colon, a behaviour.
 pub fn pp_extension(
     src: &[u8],
-    classes: &[u8; 256],
+    classes: &Classes,
     table: &mut [u32],
     levels: &mut [usize; OPEN_LEVELS],
     errors: &mut [u32],

@@ -6,14 +6,15 @@ ghost use Rattle.parser_run.specs.Reads.{stand, Reads};
 
 use crate::{body, define};
 use parser_run::ParserRun;
-use syntax_kind::kind::Kind;
+use pre::class::Classes;
+use syntax_kind::number::Kind;
 use tree::level::OPEN_LEVELS;
 use word::Word;
 
 // What is read behind the word at a place; nothing behind `else`, `endif` and an unknown word.
 pub fn rest(
     src: &[u8],
-    classes: &[u8; 256],
+    classes: &Classes,
     table: &mut [u32],
     levels: &mut [usize; OPEN_LEVELS],
     errors: &mut [u32],

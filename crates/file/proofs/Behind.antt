@@ -26,6 +26,7 @@ use Rattle.parser_run.specs.Reads.{with_run, stand}
 use Rattle.parser_run.proofs.Parts.{is_tested}
 use Rattle.file.specs.Advance.{begins_text, Advances}
 use Rattle.file.proofs.Advancing.{advance_behind, advance_trivia}
+use Rattle.syntax_kind.specs.declared.kind.SyntaxKind.{SyntaxKind}
 
 hash_tested : Tested (is Kind.HASH) (λ k. eqb k Kind.HASH)
 hash_tested = is_tested Kind.HASH (λ e. omega arith)
@@ -59,7 +60,7 @@ module _ {src : List ℕ} {s : Seen} {b : Trivia} (p : Passes src s b) where
   trivia_before = p.passed.row ∙ ap (λ x. while trivia (unread src x)) p.first_is
 
   -- What `text_lines` asks.
-  pub ready_behind : {classes : List ℕ} {q : Pen} {r : Run} → Reading src classes s → (b.next.kind ≡ 0 → ⊥) → r ≡ run_of b.next q
+  pub ready_behind : {classes : List SyntaxKind} {q : Pen} {r : Run} → Reading src classes s → (b.next.kind ≡ 0 → ⊥) → r ≡ run_of b.next q
       → (Reading src classes r.seen) × (r.seen.kind ≡ 0 → ⊥)
   ready_behind d n e = rw e (record { table = d.table; short = d.short; held = p.passed.next_held }, n)
 

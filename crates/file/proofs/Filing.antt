@@ -22,6 +22,7 @@ use Rattle.file.specs.Advance.{begins_text, items_of, Advances}
 use Rattle.file.proofs.Grounds.{grounded}
 use Rattle.file.proofs.Advancing.{advance_lines}
 use Rattle.file.proofs.Behind.{some_left, seen_text}
+use Rattle.syntax_kind.specs.declared.kind.SyntaxKind.{SyntaxKind}
 
 pub record Filing (src : List ℕ) (m₀ m : Stand) : Type 0 where
   pub toward : Toward src (items_of src) m (items_of src) m₀
@@ -58,10 +59,10 @@ module _ {src : List ℕ} {m₀ : Stand} {t o e : List ℕ} {st : ParserRun} (k 
 
   -- Or there is an item: what its reader asks,
   module _ (z : x.kind ≡ 0 → ⊥) where
-    pub filing_ready : {classes : List ℕ} {s₀ : Seen} → Reading src classes s₀ → (Reading src classes st.run.seen) × (st.run.seen.kind ≡ 0 → ⊥)
+    pub filing_ready : {classes : List SyntaxKind} {s₀ : Seen} → Reading src classes s₀ → (Reading src classes st.run.seen) × (st.run.seen.kind ≡ 0 → ⊥)
     filing_ready d = (ready d k.held, rw s at z)
 
-    pub filing_item : {classes : List ℕ} {s₀ : Seen} → Reading src classes s₀
+    pub filing_item : {classes : List SyntaxKind} {s₀ : Seen} → Reading src classes s₀
         → (Reading src classes st.run.seen) × ((Grounded src (stand t o e st)) × (st.run.seen.kind ≡ 0 → ⊥))
     filing_item d = (ready d k.held, (k.ground, rw s at z))
 

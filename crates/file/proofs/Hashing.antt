@@ -26,8 +26,9 @@ use Rattle.file.specs.Advance.{Fitting, Advances}
 use Rattle.file.proofs.Advancing.{item_fitting, advance_item}
 use Rattle.file.proofs.LentItem.{reads_tail}
 use Rattle.file.proofs.Behind.{hash_behind}
+use Rattle.syntax_kind.specs.declared.kind.SyntaxKind.{SyntaxKind}
 
-module _ {src classes : List ℕ} {s : Seen} {b : Trivia} (h : Hashed src classes s b) where
+module _ {src : List ℕ} {classes : List SyntaxKind} {s : Seen} {b : Trivia} (h : Hashed src classes s b) where
   -- A HASH follows the trivia.
   hash_next : peek (is Kind.HASH) (after trivia (unread src s)) ≡ true
   hash_next = hash_behind h.passes ∙ eq-eqb _ _ h.hash
@@ -61,5 +62,5 @@ module _ {src classes t o e : List ℕ} {st : ParserRun} {b : Trivia} (h : Hashe
       rw (si, yi, qi) (reads_tail (hash_reader (length src)) t o e u o' e' st r a d (hash_fitting h) s f)
 
 -- It is one item.
-pub advance_hash : {src classes : List ℕ} {b : Trivia} {m m' : Stand} → Hashed src classes m.state.run.seen b → Reads src (hash_reader (length src)) m m' → Advances src m m'
+pub advance_hash : {src : List ℕ} {classes : List SyntaxKind} {b : Trivia} {m m' : Stand} → Hashed src classes m.state.run.seen b → Reads src (hash_reader (length src)) m m' → Advances src m m'
 advance_hash h x = advance_item h.reading.held (hash_some h) (reads_is x (hash_item_is h))

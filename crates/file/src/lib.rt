@@ -11,13 +11,14 @@ ghost use Rattle.file.specs.Advance.{begins_text, items_of, Advances};
 
 use parser::trivia::Trivia;
 use parser_run::ParserRun;
-use syntax_kind::kind::Kind;
+use pre::class::Classes;
+use syntax_kind::number::Kind;
 use tree::level::OPEN_LEVELS;
 
 // A group or a directive, written into the unused tail of the table; before: the trivia before its HASH, which is passed over.
 fn hash_item(
     src: &[u8],
-    classes: &[u8; 256],
+    classes: &Classes,
     table: &mut [u32],
     levels: &mut [usize; OPEN_LEVELS],
     errors: &mut [u32],
@@ -49,7 +50,7 @@ fn hash_item(
 // An item that begins with trivia, or with a HASH: a directive or a group, or text behind trivia, or trivia at the end of the source.
 fn item(
     src: &[u8],
-    classes: &[u8; 256],
+    classes: &Classes,
     table: &mut [u32],
     levels: &mut [usize; OPEN_LEVELS],
     errors: &mut [u32],
@@ -86,7 +87,7 @@ fn is_text(kind: u8) -> bool
 // Item after item. Text is taken here and not in `item` only: called from two places, `text_lines` stays a function of its own.
 pub fn file(
     src: &[u8],
-    classes: &[u8; 256],
+    classes: &Classes,
     table: &mut [u32],
     levels: &mut [usize; OPEN_LEVELS],
     errors: &mut [u32],

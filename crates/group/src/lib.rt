@@ -10,7 +10,8 @@ ghost use Rattle.parser.specs.Rest.{unread, Reading, Takes};
 ghost use Rattle.group.specs.Group.{brackets, group_at, closed, nodeless};
 
 use parser::{Run, Seen};
-use syntax_kind::kind::Kind;
+use pre::class::Classes;
+use syntax_kind::number::Kind;
 
 // How many brackets are open behind a leaf of this kind.
 fn brackets(kind: u8, count: u32) -> u32
@@ -30,7 +31,7 @@ fn brackets(kind: u8, count: u32) -> u32
 }
 
 // Takes a group from its LPAREN on, up to the matching RPAREN or the end.
-pub fn pp_rs_ident(src: &[u8], classes: &[u8; 256], table: &mut [u32], run: Run) -> Run
+pub fn pp_rs_ident(src: &[u8], classes: &Classes, table: &mut [u32], run: Run) -> Run
     requires { (Reading src.now classes.now run.seen) × (run.seen.kind ≡ SyntaxKind.LPAREN) }
     ensures { Takes src.now (group_at src.now run.seen) table.old run table.new result }
 {
@@ -51,7 +52,7 @@ pub fn pp_rs_ident(src: &[u8], classes: &[u8; 256], table: &mut [u32], run: Run)
 }
 
 // Whether the group from its LPAREN on, x, closes.
-fn closes(src: &[u8], classes: &[u8; 256], x: Seen) -> bool
+fn closes(src: &[u8], classes: &Classes, x: Seen) -> bool
     requires { (Reading src.now classes.now x) × (x.kind ≡ SyntaxKind.LPAREN) }
     ensures { result ≡ closed (group_at src.now x (unread src.now x)) }
 {
@@ -68,7 +69,7 @@ fn closes(src: &[u8], classes: &[u8; 256], x: Seen) -> bool
 }
 
 // Whether a closed group follows a HASH and its trivia: it has no node.
-pub fn is_group(src: &[u8], classes: &[u8; 256], x: Seen) -> bool
+pub fn is_group(src: &[u8], classes: &Classes, x: Seen) -> bool
     requires { Reading src.now classes.now x }
     ensures { result ≡ nodeless (control_line (length src.now) relexed (unread src.now x)) }
 {

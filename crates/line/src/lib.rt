@@ -11,13 +11,14 @@ ghost use Rattle.line.specs.Line.{tail_errors, extra_row, ErrorRow};
 use error::ErrorKind;
 use parser::Seen;
 use parser_run::ParserRun;
-use syntax_kind::kind::Kind;
+use pre::class::Classes;
+use syntax_kind::number::Kind;
 use tree::level::OPEN_LEVELS;
 
 // The rest of the line in an ERROR node, from a leaf on that is no NEWLINE.
 fn error_row(
     src: &[u8],
-    classes: &[u8; 256],
+    classes: &Classes,
     table: &mut [u32],
     levels: &mut [usize; OPEN_LEVELS],
     state: ParserRun,
@@ -34,7 +35,7 @@ fn error_row(
 // Extra leaves up to the end of the line. known: the directive is, and they are an error; w: its word.
 fn extra(
     src: &[u8],
-    classes: &[u8; 256],
+    classes: &Classes,
     table: &mut [u32],
     levels: &mut [usize; OPEN_LEVELS],
     errors: &mut [u32],
@@ -59,7 +60,7 @@ fn extra(
 // The end of a directive's line. known: the directive is; w: its word.
 pub fn finish(
     src: &[u8],
-    classes: &[u8; 256],
+    classes: &Classes,
     table: &mut [u32],
     levels: &mut [usize; OPEN_LEVELS],
     errors: &mut [u32],

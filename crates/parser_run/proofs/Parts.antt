@@ -23,9 +23,10 @@ use Rattle.parser_run.specs.Reads.{Stand, stand, Reads, Quiet, Took, Moves, Logs
 use Rattle.parser_run.specs.Faults.{missing_fault}
 use Rattle.parser_run.specs.Expects.{kinds, either, passes, missed, expect_any, Expects}
 use Rattle.parser_run.proofs.Laws.{reads_is, reads_wrap, reads_raise, reads_maybe, maybe_none, bump_rowed}
+use Rattle.syntax_kind.specs.declared.kind.SyntaxKind.{SyntaxKind}
 
 -- What the next function asks: a leaf that is held, beside what was asked before.
-module _ {src classes : List ℕ} {s : Seen} (d : Reading src classes s) where
+module _ {src : List ℕ} {classes : List SyntaxKind} {s : Seen} (d : Reading src classes s) where
   pub ready : {s' : Seen} → Held src s' → Reading src classes s'
   ready h = record { table = d.table; short = d.short; held = h }
 
@@ -38,7 +39,7 @@ module _ {src classes : List ℕ} {s : Seen} (d : Reading src classes s) where
   pub ready_expects : {a b : ℕ} {t e t' e' : List ℕ} {st st' : ParserRun} {f : Bool} → Expects src a b t e st t' e' st' f → Reading src classes st'.run.seen
   ready_expects x = ready (x.flat.reads []).gives.held
 
-pub ready_moved : {src classes : List ℕ} {v : Event} {t o t' o' : List ℕ} {st st' : ParserRun} → Reading src classes st.run.seen → Moves v t o st t' o' st'
+pub ready_moved : {src : List ℕ} {classes : List SyntaxKind} {v : Event} {t o t' o' : List ℕ} {st st' : ParserRun} → Reading src classes st.run.seen → Moves v t o st t' o' st'
     → Reading src classes st'.run.seen
 ready_moved d x = rw x.seen d
 
@@ -121,7 +122,7 @@ module _ (src : List ℕ) (st : ParserRun) {x : Seen} (s : x ≡ st.run.seen) wh
   pub seen_tested : {q : Leaf → Bool} {m : ℕ → Bool} → Tested q m → {b : Bool} → m x.kind ≡ b → peek q (unread src st.run.seen) ≡ b
   seen_tested {m = m} w e = peeked w src st.run.seen ∙ ap (λ (u : Seen). m u.kind) (sym s) ∙ e
 
-  logged : {classes : List ℕ} {f : Fault} (a b : ℕ) {e e' : List ℕ} {st₁ st₂ : ParserRun} → Reading src classes st.run.seen → f ≡ missing_fault (length src) x a b
+  logged : {classes : List SyntaxKind} {f : Fault} (a b : ℕ) {e e' : List ℕ} {st₁ st₂ : ParserRun} → Reading src classes st.run.seen → f ≡ missing_fault (length src) x a b
       → Logs f e st₁ e' st₂ → Logs (fault_of (missed (length src) (kinds a b) (unread src st.run.seen))) e st₁ e' st₂
   logged {f = f} a b d g l =
       let q : f ≡ fault_of (missed (length src) (kinds a b) (unread src st.run.seen)) =

@@ -13,7 +13,8 @@ ghost use Rattle.parser_run.specs.Expects.{passes, Expects};
 
 use error::Fault;
 use parser::{Run, Seen};
-use syntax_kind::kind::Kind;
+use pre::class::Classes;
+use syntax_kind::number::Kind;
 use tree::level::OPEN_LEVELS;
 
 // Where the parser stands, the place of the next error, and whether a body held too many ##.
@@ -55,7 +56,7 @@ pub fn worse(before: bool, now: bool) -> bool
 }
 
 // Takes the leaf that is seen.
-pub fn bump(src: &[u8], classes: &[u8; 256], table: &mut [u32], state: ParserRun) -> ParserRun
+pub fn bump(src: &[u8], classes: &Classes, table: &mut [u32], state: ParserRun) -> ParserRun
     requires { Reading src.now classes.now state.run.seen }
     ensures { Took src.now reader.bump table.old state table.new result }
 {
@@ -66,7 +67,7 @@ pub fn bump(src: &[u8], classes: &[u8; 256], table: &mut [u32], state: ParserRun
 // Takes the trivia that comes next.
 pub fn skip_trivia(
     src: &[u8],
-    classes: &[u8; 256],
+    classes: &Classes,
     table: &mut [u32],
     state: ParserRun,
 ) -> ParserRun
@@ -80,7 +81,7 @@ pub fn skip_trivia(
 // Takes the rest of the line, up to its NEWLINE or the end.
 pub fn skip_inline(
     src: &[u8],
-    classes: &[u8; 256],
+    classes: &Classes,
     table: &mut [u32],
     state: ParserRun,
 ) -> ParserRun
@@ -94,7 +95,7 @@ pub fn skip_inline(
 // Takes the leaf that is seen, but no NEWLINE.
 pub fn bump_inline(
     src: &[u8],
-    classes: &[u8; 256],
+    classes: &Classes,
     table: &mut [u32],
     state: ParserRun,
 ) -> ParserRun
@@ -151,7 +152,7 @@ pub fn push_error(errors: &mut [u32], state: ParserRun, e: Fault) -> ParserRun
 // A node of this kind over the leaf that is seen.
 pub fn node_bump(
     src: &[u8],
-    classes: &[u8; 256],
+    classes: &Classes,
     table: &mut [u32],
     levels: &mut [usize; OPEN_LEVELS],
     state: ParserRun,
@@ -168,7 +169,7 @@ pub fn node_bump(
 // A leaf of kind k (`expect_one`): another goes into an ERROR node, a NEWLINE too.
 pub fn expect_one(
     src: &[u8],
-    classes: &[u8; 256],
+    classes: &Classes,
     table: &mut [u32],
     levels: &mut [usize; OPEN_LEVELS],
     errors: &mut [u32],
@@ -209,7 +210,7 @@ fn is_expected(kind: u8, a: u8, b: u8) -> bool
 // A leaf of kind a or b, 0 if only a (`expect_any`): another is taken too, but a NEWLINE is not.
 pub fn expect_any(
     src: &[u8],
-    classes: &[u8; 256],
+    classes: &Classes,
     table: &mut [u32],
     errors: &mut [u32],
     state: ParserRun,

@@ -6,14 +6,15 @@ ghost use Rattle.table.specs.Row.{far};
 ghost use Rattle.reading.specs.Parsed.{Begins, Lent, Parsed, Ended};
 
 use parser_run::ParserRun;
+use pre::class::Classes;
 use pre::class;
-use syntax_kind::kind::Kind;
+use syntax_kind::number::Kind;
 use tables::Ends;
 use tree::level::OPEN_LEVELS;
 use tree::{Pen, level};
 
 // At the front of a source, with nothing written.
-fn begin(src: &[u8], classes: &[u8; 256]) -> ParserRun
+fn begin(src: &[u8], classes: &Classes) -> ParserRun
     requires { (classes.now ≡ class_table) × (length src.now ≤ longest_source) }
     ensures { Begins src.now result }
 {
@@ -29,7 +30,7 @@ fn begin(src: &[u8], classes: &[u8; 256]) -> ParserRun
 // The items of a source, under ROOT.
 fn root(
     src: &[u8],
-    classes: &[u8; 256],
+    classes: &Classes,
     entries: &mut [u32],
     levels: &mut [usize; OPEN_LEVELS],
     errors: &mut [u32],

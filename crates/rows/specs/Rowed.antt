@@ -15,6 +15,7 @@ use Rattle.parser.specs.Rest.{unread, Held}
 use Rattle.parser.specs.Passed.{Passed}
 use Rattle.rows.specs.declared.BodyRow.{BodyRow}
 use Rattle.rows.specs.declared.body.BodyRun.{BodyRun}
+use Rattle.syntax_kind.specs.declared.kind.SyntaxKind.{SyntaxKind}
 
 -- Whether a line has more ## than a.
 abbrev pub beyond : ℕ → List Leaf → Bool
@@ -35,7 +36,7 @@ abbrev pub behind_seen : List ℕ → Seen → List Leaf
 behind_seen src x = leaves_from src x.end x.angle
 
 -- What functions ask that are handed trivia which was passed over.
-pub record Ahead (src classes : List ℕ) (p : Trivia) : Type 0 where
+pub record Ahead (src : List ℕ) (classes : List SyntaxKind) (p : Trivia) : Type 0 where
   pub table : classes ≡ class_table
   pub short : length src ≤ longest_source
   pub passed : Passed src p

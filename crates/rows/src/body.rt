@@ -9,7 +9,8 @@ ghost use Rattle.rows.specs.Rowed.{Ahead, row_from, node_from, Rowed, ReadsBody,
 use crate::{BodyRow, concat};
 use parser::Run;
 use parser::trivia::Trivia;
-use syntax_kind::kind::Kind;
+use pre::class::Classes;
+use syntax_kind::number::Kind;
 use tree::Pen;
 use tree::level::OPEN_LEVELS;
 
@@ -17,7 +18,7 @@ use tree::level::OPEN_LEVELS;
 // it that is no trivia, or, with none, starts where the row does.
 pub fn pp_tokens(
     src: &[u8],
-    classes: &[u8; 256],
+    classes: &Classes,
     table: &mut [u32],
     levels: &mut [usize; OPEN_LEVELS],
     pen: Pen,
@@ -53,7 +54,7 @@ pub fn pp_tokens(
 // A node of kind k over a row; p: the trivia before the first leaf.
 fn row_node(
     src: &[u8],
-    classes: &[u8; 256],
+    classes: &Classes,
     table: &mut [u32],
     levels: &mut [usize; OPEN_LEVELS],
     pen: Pen,
@@ -78,7 +79,7 @@ pub struct BodyRun {
 // Trivia, a node of kind k over a row, and the trivia behind it.
 pub fn pp_body(
     src: &[u8],
-    classes: &[u8; 256],
+    classes: &Classes,
     table: &mut [u32],
     levels: &mut [usize; OPEN_LEVELS],
     run: Run,
@@ -103,7 +104,7 @@ pub fn pp_body(
 // The body of a source that is one: a node over the row up to the first NEWLINE, leading trivia inside, and nothing behind it.
 pub fn body_alone(
     src: &[u8],
-    classes: &[u8; 256],
+    classes: &Classes,
     table: &mut [u32],
     levels: &mut [usize; OPEN_LEVELS],
 ) -> BodyRow

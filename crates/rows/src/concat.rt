@@ -8,14 +8,15 @@ ghost use Rattle.rows.specs.Rowed.{seen_event, Ahead, concat_from, pasting_shut,
 use crate::BodyRow;
 use parser::Seen;
 use parser::trivia::Trivia;
-use syntax_kind::kind::Kind;
+use pre::class::Classes;
+use syntax_kind::number::Kind;
 use tree::Pen;
 use tree::level::{MOST_CONCATS, OPEN_LEVELS};
 
 // The inside of a PP_CONCAT from its ## on, x. A further ## opens a node inside, to the row's end; allowance: how many more may do so.
 fn pp_concat(
     src: &[u8],
-    classes: &[u8; 256],
+    classes: &Classes,
     table: &mut [u32],
     levels: &mut [usize; OPEN_LEVELS],
     pen: Pen,
@@ -56,7 +57,7 @@ fn pp_concat(
 // The first PP_CONCAT, which is open, from the trivia before its ## on.
 fn rest_of_concat(
     src: &[u8],
-    classes: &[u8; 256],
+    classes: &Classes,
     table: &mut [u32],
     levels: &mut [usize; OPEN_LEVELS],
     pen: Pen,
@@ -73,7 +74,7 @@ fn rest_of_concat(
 // A PP_CONCAT from the row's start on: the trivia and the ## behind it.
 pub fn first_concat(
     src: &[u8],
-    classes: &[u8; 256],
+    classes: &Classes,
     table: &mut [u32],
     levels: &mut [usize; OPEN_LEVELS],
     pen: Pen,
@@ -89,7 +90,7 @@ pub fn first_concat(
 // A PP_CONCAT that wraps x, the trivia and the ## behind it.
 pub fn wrapping_concat(
     src: &[u8],
-    classes: &[u8; 256],
+    classes: &Classes,
     table: &mut [u32],
     levels: &mut [usize; OPEN_LEVELS],
     pen: Pen,

@@ -11,6 +11,7 @@ ghost use Rattle.parser.specs.Rest.{unread};
 ghost use Rattle.rows.specs.Rowed.{Ahead, Shuts};
 
 use parser::trivia::Trivia;
+use pre::class::Classes;
 use tree::Pen;
 use tree::level::OPEN_LEVELS;
 
@@ -24,7 +25,7 @@ pub struct BodyRow {
 }
 
 // Writes trivia that was passed over.
-fn eat(src: &[u8], classes: &[u8; 256], table: &mut [u32], pen: Pen, p: Trivia) -> Pen
+fn eat(src: &[u8], classes: &Classes, table: &mut [u32], pen: Pen, p: Trivia) -> Pen
     requires { Ahead src.now classes.now p }
     ensures { sheet table.new result ≡ leafs (sheet table.old pen) (while trivia (unread src.now p.first)) }
 {

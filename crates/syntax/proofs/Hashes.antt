@@ -28,6 +28,7 @@ use Rattle.group.proofs.Lines.{group_lparen}
 use Rattle.syntax.specs.Item.{hash_front, hash_reader}
 use Rattle.syntax.specs.Section.{Fronted, Noded}
 use Rattle.syntax.proofs.Items.{hash_group}
+use Rattle.syntax_kind.specs.declared.kind.SyntaxKind.{SyntaxKind}
 
 -- Trivia that was passed over is written,
 passed_takes : {src t t' : List ℕ} {p p' : Pen} {q : Trivia} → Passed src q → sheet t' p' ≡ leafs (sheet t p) (while (before q.next.start) (unread src q.first))
@@ -41,7 +42,7 @@ leaf_takes : {src t t' : List ℕ} {p p' : Pen} {h : Seen} (s : Seen) → Held s
 unfolding bump leaves leafs Held
 leaf_takes {src} {h = h} s i z w r k = let o = one_seen src h z in record { tree = rw (o, (i z).0) w; rest = rw o r; held = k }
 
-module _ {src classes : List ℕ} {s : Seen} {q q' : Trivia} (d : Fronted src classes s q q') where
+module _ {src : List ℕ} {classes : List SyntaxKind} {s : Seen} {q q' : Trivia} (d : Fronted src classes s q q') where
   some_hash : q.next.kind ≡ 0 → ⊥
   some_hash z = let k = d.hashed.hash in omega arith
 
@@ -86,6 +87,6 @@ module _ {src classes t : List ℕ} {st : ParserRun} {q q' : Trivia} (d : Fronte
         → Reads src (hash_reader (length src)) (stand t o e st) (stand t₂ o e st₂)
     group_item i x w = hash_group (length src) y nodeless_seen i x w
 
-pub fronted_moved : {src classes : List ℕ} {v : Event} {t o t' o' : List ℕ} {st st' : ParserRun} {q q' : Trivia} → Fronted src classes st.run.seen q q' → Moves v t o st t' o' st'
+pub fronted_moved : {src : List ℕ} {classes : List SyntaxKind} {v : Event} {t o t' o' : List ℕ} {st st' : ParserRun} {q q' : Trivia} → Fronted src classes st.run.seen q q' → Moves v t o st t' o' st'
     → Fronted src classes st'.run.seen q q'
 fronted_moved d x = rw x.seen d

@@ -33,6 +33,7 @@ use Rattle.group.proofs.Lines.{group_closed, silent, at_lparen}
 use Rattle.syntax.specs.Item.{Ends}
 use Rattle.syntax.specs.Section.{Noded, Unended, Worded}
 use Rattle.syntax.proofs.Items.{ends_by, group_took}
+use Rattle.syntax_kind.specs.declared.kind.SyntaxKind.{SyntaxKind}
 
 -- The end of an unknown directive's line meets no error.
 finish_errs : (ts : List Leaf) → (finish (λ t end. []) ts).errs ≡ []
@@ -45,7 +46,7 @@ finish_errs (t ∷ ts) = go (newline_leaf t) refl
     go false e = rw (e, finish) (bump_rowed.errs _)
 
 -- The word that is seen, x, names the directive.
-pub word_held : {src classes : List ℕ} {x u : Seen} → x ≡ u → (Reading src classes u) × (u.kind ≡ 0 → ⊥) → Held src x × (x.kind ≡ 0 → ⊥)
+pub word_held : {src : List ℕ} {classes : List SyntaxKind} {x u : Seen} → x ≡ u → (Reading src classes u) × (u.kind ≡ 0 → ⊥) → Held src x × (x.kind ≡ 0 → ⊥)
 word_held s d = rw s (d.0.held, d.1)
 
 module _ {src t o e : List ℕ} {st : ParserRun} {x : Seen} (s : x ≡ st.run.seen) where
@@ -72,7 +73,7 @@ ends_always : {src : List ℕ} {p : Reader} {l : Line} {m : Stand} {t o e t' o' 
 ends_always q y z = ends_by (ap (λ (l : Line). l.node_kind) q) (ap (λ (l : Line). l.got) q) y z
 
 -- A line by the word that is found at its start.
-module _ {src classes : List ℕ} {u : Seen} (d : Worded src classes u) {w : ℕ} (f : Finds (leaf_seen src u).bytes w) where
+module _ {src : List ℕ} {classes : List SyntaxKind} {u : Seen} (d : Worded src classes u) {w : ℕ} (f : Finds (leaf_seen src u).bytes w) where
   at_unknown : w ≡ Word.UNKNOWN → control_line (length src) relexed (unread src u) ≡ lined (always Kind.ERROR) (unknown (leaf_seen src u) (unread src u))
   at_unknown k =
       rw (one_seen src u d.some) (line_unknown (length src) relexed (leaf_seen src u) (ne_eqb _ _ d.inline) (ne_eqb _ _ d.no_group) (found_unknown f k (length src)) _)
@@ -82,7 +83,7 @@ module _ {src classes : List ℕ} {u : Seen} (d : Worded src classes u) {w : ℕ
   at_word k =
       rw (one_seen src u d.some) (line_word (length src) relexed (leaf_seen src u) _ (ne_eqb _ _ d.inline) (ne_eqb _ _ d.no_group) (found_known f k (length src)) _)
 
-module _ {src classes : List ℕ} {st : ParserRun} (d : Worded src classes st.run.seen) {x : Seen} (s : x ≡ st.run.seen) {w : ℕ} (f : Finds (leaf_seen src x).bytes w)
+module _ {src : List ℕ} {classes : List SyntaxKind} {st : ParserRun} (d : Worded src classes st.run.seen) {x : Seen} (s : x ≡ st.run.seen) {w : ℕ} (f : Finds (leaf_seen src x).bytes w)
     {t o e t₁ o₁ e₁ t₂ o₂ : List ℕ} {st₁ st₂ : ParserRun} where
   pub line_of_unknown : w ≡ Word.UNKNOWN → Reads src (unknown (leaf_seen src st.run.seen)) (stand t o e st) (stand t₁ o₁ e₁ st₁)
       → Moves (Shut Kind.ERROR) t₁ o₁ st₁ t₂ o₂ st₂ → Ends src (control_line (length src) relexed (unread src st.run.seen)) (stand t o e st) (stand t₂ o₂ e₁ st₂)
@@ -111,7 +112,7 @@ group_errs : (l : Leaf) (t : Leaf) (ts : List Leaf) → closed ((bump then pp_rs
 unfolding ◌then◌ bump
 group_errs l t ts i = unended_errs l 0 ts i
 
-module _ {src classes : List ℕ} {u : Seen} (d : Unended src classes u) where
+module _ {src : List ℕ} {classes : List SyntaxKind} {u : Seen} (d : Unended src classes u) where
   some_lparen : u.kind ≡ 0 → ⊥
   some_lparen z = let k = d.lparen in omega arith
 
@@ -123,7 +124,7 @@ module _ {src classes : List ℕ} {u : Seen} (d : Unended src classes u) where
       let es : g.errs ≡ no_rparen (leaf_seen src u) ∷ [] = rw (one_seen src u some_lparen) (group_errs (leaf_seen src u) (leaf_seen src u) _ (rw (one_seen src u some_lparen) at i)) in
       q ∙ ap (λ es. lined group_kind (record { tree = g.tree; errs = es; rest = g.rest })) es
 
-pub line_of_unended : {src classes : List ℕ} {st : ParserRun} {x : Seen} {t o e t₁ e₂ t₃ o₃ : List ℕ} {st₁ st₂ st₃ : ParserRun} {r : Run} {f : Fault} → Unended src classes st.run.seen
+pub line_of_unended : {src : List ℕ} {classes : List SyntaxKind} {st : ParserRun} {x : Seen} {t o e t₁ e₂ t₃ o₃ : List ℕ} {st₁ st₂ st₃ : ParserRun} {r : Run} {f : Fault} → Unended src classes st.run.seen
     → x ≡ st.run.seen → Takes src (group_at src st.run.seen) t st.run t₁ r → st₁ ≡ with_run st r → f ≡ end_fault x.start x.end Kind.RPAREN 0
     → Logs f e st₁ e₂ st₂ → Moves (Shut Kind.ERROR) t₁ o st₂ t₃ o₃ st₃
     → Ends src (control_line (length src) relexed (unread src st.run.seen)) (stand t o e st) (stand t₃ o₃ e₂ st₃)
@@ -133,11 +134,11 @@ line_of_unended {src} {st = st} {o = o} {e = e} {f = f} d s y w g l z =
     ends_always (at_unended d) (reads_raise _ refl ((group_took y w).reads o e) (rw q at l)) z
 
 -- What follows a HASH, by the leaf that is seen, x.
-pub worded : {src classes : List ℕ} {u x : Seen} → Noded src classes u → x ≡ u → (x.kind ≡ 0 → ⊥) → (x.kind ≡ Kind.NEWLINE → ⊥) → (x.kind ≡ Kind.LPAREN → ⊥)
+pub worded : {src : List ℕ} {classes : List SyntaxKind} {u x : Seen} → Noded src classes u → x ≡ u → (x.kind ≡ 0 → ⊥) → (x.kind ≡ Kind.NEWLINE → ⊥) → (x.kind ≡ Kind.LPAREN → ⊥)
     → Worded src classes u
 worded d s a b c = record { reading = d.reading; some = rw s at a; inline = rw s at b; no_group = rw s at c }
 
-module _ {src classes : List ℕ} {st : ParserRun} (d : Noded src classes st.run.seen) {x : Seen} (s : x ≡ st.run.seen) where
+module _ {src : List ℕ} {classes : List SyntaxKind} {st : ParserRun} (d : Noded src classes st.run.seen) {x : Seen} (s : x ≡ st.run.seen) where
   pub line_at_end : {t o e t₁ o₁ : List ℕ} {st₁ : ParserRun} → x.kind ≡ 0 → Moves (Shut Kind.ERROR) t o st t₁ o₁ st₁
       → Ends src (control_line (length src) relexed (unread src st.run.seen)) (stand t o e st) (stand t₁ o₁ e st₁)
   line_at_end k z = ends_always (rw (none_seen src st.run.seen (rw s at k)) (line_nil (length src) relexed)) (reads_nothing _ d.reading.held) z

@@ -11,14 +11,15 @@ use error::ErrorKind;
 use parser::Seen;
 use parser::trivia::Trivia;
 use parser_run::{ParserRun, fault};
-use syntax_kind::kind::Kind;
+use pre::class::Classes;
+use syntax_kind::number::Kind;
 use tree::level::OPEN_LEVELS;
 use word::Word;
 
 // The line of an unknown word, which is seen: an error at the word, and none for what follows it.
 fn unknown(
     src: &[u8],
-    classes: &[u8; 256],
+    classes: &Classes,
     table: &mut [u32],
     levels: &mut [usize; OPEN_LEVELS],
     errors: &mut [u32],
@@ -36,7 +37,7 @@ fn unknown(
 // The line of the directive at place w, whose word is seen.
 fn directive(
     src: &[u8],
-    classes: &[u8; 256],
+    classes: &Classes,
     table: &mut [u32],
     levels: &mut [usize; OPEN_LEVELS],
     errors: &mut [u32],
@@ -66,7 +67,7 @@ fn word_of(src: &[u8], x: Seen) -> usize
 // A directive's line from its word on, in a node that is open, up to the node's end.
 fn word_line(
     src: &[u8],
-    classes: &[u8; 256],
+    classes: &Classes,
     table: &mut [u32],
     levels: &mut [usize; OPEN_LEVELS],
     errors: &mut [u32],
@@ -87,7 +88,7 @@ fn word_line(
 // A group that does not close, in a node that is open: an error at its LPAREN, which is seen, and the node's end.
 fn unended(
     src: &[u8],
-    classes: &[u8; 256],
+    classes: &Classes,
     table: &mut [u32],
     levels: &mut [usize; OPEN_LEVELS],
     errors: &mut [u32],
@@ -107,7 +108,7 @@ fn unended(
 // What follows a HASH and its trivia in a node that is open, up to the node's end.
 fn control_line(
     src: &[u8],
-    classes: &[u8; 256],
+    classes: &Classes,
     table: &mut [u32],
     levels: &mut [usize; OPEN_LEVELS],
     errors: &mut [u32],
@@ -133,7 +134,7 @@ fn control_line(
 // Writes the trivia before a HASH, the HASH and the trivia behind it; what follows is seen.
 fn hash(
     src: &[u8],
-    classes: &[u8; 256],
+    classes: &Classes,
     table: &mut [u32],
     state: ParserRun,
     before: Trivia,
@@ -154,7 +155,7 @@ fn hash(
 // A group or a directive; before: the trivia before its HASH, which is passed over.
 pub fn if_section_or_control_line(
     src: &[u8],
-    classes: &[u8; 256],
+    classes: &Classes,
     table: &mut [u32],
     levels: &mut [usize; OPEN_LEVELS],
     errors: &mut [u32],
