@@ -4,7 +4,7 @@ ghost use Rattle.definition.specs.Condition.Meaning.{after};
 ghost use Rattle.arithmetic.specs.Told.{told, operated, joined};
 
 use crate::{Value, answers, integer};
-use syntax_kind::kind::Kind;
+use syntax_kind::number::Kind;
 use text::refusal::Refusal;
 
 // What the operator of a kind does with two values.

@@ -3,7 +3,7 @@ ghost use Rattle.std.specs.Prelude.{◌≡◌};
 ghost use Rattle.definition.specs.Condition.Operators.{binary};
 ghost use Rattle.arithmetic.specs.Told.{rank_number};
 
-use syntax_kind::kind::Kind;
+use syntax_kind::number::Kind;
 
 // The rank of a kind, counted from 1, the loosest; 0: it is no binary operator.
 pub fn rank(kind: u8) -> u32

@@ -5,7 +5,7 @@ ghost use Rattle.definition.specs.Condition.Value as outcome;
 ghost use Rattle.arithmetic.specs.Told.{told, signed_by, is_unary};
 
 use crate::{Value, answers, integer};
-use syntax_kind::kind::Kind;
+use syntax_kind::number::Kind;
 use text::refusal::Refusal;
 
 // Whether a kind is a sign.

@@ -10,7 +10,7 @@ ghost use Rattle.condition.specs.Steps.{Stands, Standing, worth, left, told_step
 use crate::{Step, leaf, operand};
 use arithmetic::{binary, rank, unary as signs};
 use parser::Seen;
-use syntax_kind::kind::Kind;
+use syntax_kind::number::Kind;
 
 // A sign before what was read.
 fn signed(kind: u8, a: Step) -> Step

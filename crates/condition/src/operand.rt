@@ -11,7 +11,7 @@ ghost use Rattle.condition.specs.Steps.{Standing, look_in, worth, left, numbered
 use crate::{Step, leaf};
 use arithmetic::Value;
 use parser::Seen;
-use syntax_kind::kind::Kind;
+use syntax_kind::number::Kind;
 use text::refusal::Refusal;
 
 // The value of a DIGITS leaf.

@@ -13,7 +13,8 @@ use Rattle.theorems.specs.BodyRows.{ends}
 use Rattle.theorems.proofs.Tiling.Leaves.{leaves_row, while_yes}
 use Rattle.tree.specs.Machine.{Open, Shut, Sheet, sheet, leafs, step}
 use Rattle.tree.proofs.Runs.{leafs_pos}
-use Rattle.error.specs.Log.{fault_of}
+use Rattle.error.specs.Log.{met, fault_of}
+use Rattle.error.specs.declared.ErrorKind.TheVariants.{ExtraTokens}
 use Rattle.error.specs.declared.Fault.{Fault}
 use Rattle.parser.specs.declared.Seen.{Seen}
 use Rattle.parser.specs.declared.Run.{Run}
@@ -56,12 +57,12 @@ module _ {src t o t₁ o₁ : List ℕ} {st st₁ : ParserRun} (y : ErrorRow src
   extra_unknown k = rw k (reads_is (y.quiet.reads e) refl)
 
   pub extra_known : {known : Bool} {x : Seen} {e' : List ℕ} {st₂ : ParserRun} {f : Fault} → Held src w → (w.kind ≡ 0 → ⊥) → known ≡ true → x ≡ st.run.seen
-      → f ≡ named_fault ErrorKind.extra_tokens x.start st₁.run.pen.pos w → Logs f e st₁ e' st₂
+      → f ≡ named_fault ExtraTokens x.start st₁.run.pen.pos w → Logs (met f) e st₁ e' st₂
       → Reads src (extra_row src known (leaf_seen src w) st.run.seen) (stand t o e st) (stand t₁ o₁ e' st₂)
   unfolding wrap skip extra Held
   extra_known {f = f} h n k s g l =
-      let q : f ≡ fault_of (named_error ErrorKind.extra_tokens st.run.seen.start (last_stop 0 (while inline (unread src st.run.seen))) (leaf_seen src w)) =
-      g ∙ rw (s, y.pos, (h n).0) refl in
+      let q : met f ≡ fault_of (named_error ErrorKind.extra_tokens st.run.seen.start (last_stop 0 (while inline (unread src st.run.seen))) (leaf_seen src w)) =
+      ap met g ∙ rw (s, y.pos, (h n).0) refl in
       rw k (reads_is (reads_raise _ refl (y.quiet.reads e) (rw q at l)) refl)
 
 -- The end of a line, by its first leaf.

@@ -51,7 +51,7 @@ fn extra(
     if known {
         let run = a.run;
         let pen = run.pen;
-        let e = parser_run::fault::named_error(ErrorKind::EXTRA_TOKENS, x.start, pen.pos, w);
+        let e = parser_run::fault::named_error(ErrorKind::ExtraTokens, x.start, pen.pos, w);
         return parser_run::push_error(errors, a, e);
     }
     a

@@ -13,7 +13,7 @@ use Rattle.definition.specs.Error.{unexpected}
 use Rattle.definition.specs.Parser.{is, newline_leaf, inline, peek, push, raise, Reader, wrap, nothing, bump, maybe, expect_one}
 use Rattle.theorems.specs.BodyRows.{ends}
 use Rattle.tree.specs.Machine.{Event, Open, Shut}
-use Rattle.error.specs.Log.{fault_of}
+use Rattle.error.specs.Log.{met, fault_of}
 use Rattle.error.specs.declared.Fault.{Fault}
 use Rattle.parser.specs.declared.Seen.{Seen}
 use Rattle.parser.specs.Rest.{unread, Held, Reading}
@@ -62,11 +62,11 @@ second_kind a b = go (eqb b 0) refl
     go true e = sym (eqb-true b 0 e)
     go false e = refl
 
-fault_missed : (src : List ℕ) (n a b : ℕ) (s : Seen) → Held src s → fault_of (missed n (kinds a b) (unread src s)) ≡ missing_fault n s a b
+fault_missed : (src : List ℕ) (n a b : ℕ) (s : Seen) → Held src s → fault_of (missed n (kinds a b) (unread src s)) ≡ met (missing_fault n s a b)
 unfolding missed Held
 fault_missed src n a b s h = go (eqb s.kind 0) refl
   where
-    go : (z : Bool) → eqb s.kind 0 ≡ z → fault_of (missed n (kinds a b) (unread src s)) ≡ missing_fault n s a b
+    go : (z : Bool) → eqb s.kind 0 ≡ z → fault_of (missed n (kinds a b) (unread src s)) ≡ met (missing_fault n s a b)
     go true e = rw (none_seen src s (eqb-true _ _ e), e, first_kind a b, second_kind a b) refl
     go false e = let z = eqb-false s.kind 0 e in rw (one_seen src s z, e, (h z).0, first_kind a b, second_kind a b) refl
 
@@ -123,10 +123,10 @@ module _ (src : List ℕ) (st : ParserRun) {x : Seen} (s : x ≡ st.run.seen) wh
   seen_tested {m = m} w e = peeked w src st.run.seen ∙ ap (λ (u : Seen). m u.kind) (sym s) ∙ e
 
   logged : {classes : List SyntaxKind} {f : Fault} (a b : ℕ) {e e' : List ℕ} {st₁ st₂ : ParserRun} → Reading src classes st.run.seen → f ≡ missing_fault (length src) x a b
-      → Logs f e st₁ e' st₂ → Logs (fault_of (missed (length src) (kinds a b) (unread src st.run.seen))) e st₁ e' st₂
+      → Logs (met f) e st₁ e' st₂ → Logs (fault_of (missed (length src) (kinds a b) (unread src st.run.seen))) e st₁ e' st₂
   logged {f = f} a b d g l =
-      let q : f ≡ fault_of (missed (length src) (kinds a b) (unread src st.run.seen)) =
-      g ∙ ap (λ (u : Seen). missing_fault (length src) u a b) s ∙ sym (fault_missed src (length src) a b st.run.seen d.held) in
+      let q : met f ≡ fault_of (missed (length src) (kinds a b) (unread src st.run.seen)) =
+      ap met g ∙ ap (λ (u : Seen). met (missing_fault (length src) u a b)) s ∙ sym (fault_missed src (length src) a b st.run.seen d.held) in
       rw q at l
 
 module _ {src : List ℕ} {st : ParserRun} {x : Seen} (s : x ≡ st.run.seen) where
@@ -151,7 +151,7 @@ module _ {src : List ℕ} {st : ParserRun} {x : Seen} (s : x ≡ st.run.seen) wh
       reads_is (y.reads o e) (one_found (length src) k (unread src st.run.seen) (seen_tested src st s (is_tested k z) (eq-eqb x.kind k i)))
 
   pub expect_other : {k : ℕ} {classes t o e t' o' e' : List ℕ} {st₁ st₂ : ParserRun} {f : Fault} → (k ≡ 0 → ⊥) → Reading src classes st.run.seen → (x.kind ≡ k → ⊥)
-      → Quiet src (wrap Kind.ERROR bump) t o st t' o' st₁ → f ≡ missing_fault (length src) x k 0 → Logs f e st₁ e' st₂
+      → Quiet src (wrap Kind.ERROR bump) t o st t' o' st₁ → f ≡ missing_fault (length src) x k 0 → Logs (met f) e st₁ e' st₂
       → Reads src (expect_one (length src) k) (stand t o e st) (stand t' o' e' st₂)
   unfolding wrap
   expect_other {k} {e = e} z d i y g l =
@@ -168,7 +168,7 @@ module _ {src : List ℕ} {st : ParserRun} {x : Seen} (s : x ≡ st.run.seen) wh
         record { flat = record { reads = λ o. reads_is (w.reads o e) (rw (v, expect_any) refl) }; found_is = sym v }
 
     pub any_missed : {classes e e' : List ℕ} {st₂ : ParserRun} {f : Fault} → Reading src classes st.run.seen → y ≡ false → f ≡ missing_fault (length src) x a b
-        → Logs f e st₁ e' st₂ → Expects src a b t e st t' e' st₂ false
+        → Logs (met f) e st₁ e' st₂ → Expects src a b t e st t' e' st₂ false
     unfolding expect_any
     any_missed {e = e} d q g l =
         let ts = unread src st.run.seen in

@@ -4,8 +4,7 @@ use Rattle.definition.specs.Tree.{Leaf}
 use Rattle.definition.specs.Parser.{Got, Reader}
 use Rattle.theorems.specs.Height.{crowded}
 use Rattle.tree.specs.Machine.{Event, Writer, writer, events, step, run}
-use Rattle.error.specs.Log.{Log, log, add, adds}
-use Rattle.error.specs.declared.Fault.{Fault}
+use Rattle.error.specs.Log.{Met, Log, log, add, adds}
 use Rattle.parser.specs.declared.Run.{Run}
 use Rattle.parser.specs.Rest.{unread, Held}
 use Rattle.parser_run.specs.declared.ParserRun.{ParserRun}
@@ -65,7 +64,7 @@ pub record Moves (v : Event) (t o : List ℕ) (st : ParserRun) (t' o' : List ℕ
   pub over : st'.over ≡ st.over
 
 -- An error goes to the log, and nothing is read.
-pub record Logs (f : Fault) (e : List ℕ) (st : ParserRun) (e' : List ℕ) (st' : ParserRun) : Type 0 where
+pub record Logs (f : Met) (e : List ℕ) (st : ParserRun) (e' : List ℕ) (st' : ParserRun) : Type 0 where
   pub adding : log e' st'.errs ≡ add f (log e st.errs)
   pub run : st'.run ≡ st.run
   pub over : st'.over ≡ st.over

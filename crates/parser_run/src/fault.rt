@@ -11,7 +11,7 @@ fn unexpected(x: Seen, a: u8, b: u8) -> Fault
     ensures { result ≡ unexpected_fault x a b }
 {
     Fault {
-        sort: ErrorKind::UNEXPECTED,
+        sort: ErrorKind::Unexpected,
         start: x.start,
         end: x.end,
         actual: parser::wide(x.kind),
@@ -27,7 +27,7 @@ pub fn end_of_input(start: u32, end: u32, a: u8, b: u8) -> Fault
     ensures { result ≡ end_fault start end a b }
 {
     Fault {
-        sort: ErrorKind::END_OF_INPUT,
+        sort: ErrorKind::EndOfInput,
         start,
         end,
         actual: 0,
@@ -39,7 +39,7 @@ pub fn end_of_input(start: u32, end: u32, a: u8, b: u8) -> Fault
 }
 
 // An error that names its directive, at a range; w: its word.
-pub fn named_error(sort: u32, start: u32, end: u32, w: Seen) -> Fault
+pub fn named_error(sort: ErrorKind, start: u32, end: u32, w: Seen) -> Fault
     ensures { result ≡ named_fault sort start end w }
 {
     Fault {

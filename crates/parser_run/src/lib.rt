@@ -7,6 +7,7 @@ ghost use Rattle.std.specs.Prelude.{◌≡◌, false, ◌||◌, length};
 ghost use Rattle.definition.specs.Tree.{body_kind};
 ghost use Rattle.definition.specs.Parser as reader;
 ghost use Rattle.tree.specs.Machine.{Open, Shut};
+ghost use Rattle.error.specs.Log.{met};
 ghost use Rattle.parser.specs.Rest.{Reading};
 ghost use Rattle.parser_run.specs.Reads.{with_run as Reads·with_run, stand, Reads, Quiet, Took, Moves, Logs};
 ghost use Rattle.parser_run.specs.Expects.{passes, Expects};
@@ -138,7 +139,7 @@ pub fn finish_node(
 
 // An error is met.
 pub fn push_error(errors: &mut [u32], state: ParserRun, e: Fault) -> ParserRun
-    ensures { Logs e errors.old state errors.new result }
+    ensures { Logs (met e) errors.old state errors.new result }
 {
     let n = error::push_error(errors, state.errs, e);
     let run = state.run;

@@ -15,7 +15,8 @@ use Rattle.definition.specs.Syntax.{extra, finish, Directive, directive, unknown
 use Rattle.theorems.proofs.Replay.Laws.{lined}
 use Rattle.theorems.proofs.Replay.Lines.{always, group_kind, line_nil, line_empty, line_word, line_unknown}
 use Rattle.tree.specs.Machine.{Shut}
-use Rattle.error.specs.Log.{fault_of}
+use Rattle.error.specs.Log.{met, fault_of}
+use Rattle.error.specs.declared.ErrorKind.TheVariants.{UnknownDirective}
 use Rattle.error.specs.declared.Fault.{Fault}
 use Rattle.parser.specs.declared.Seen.{Seen}
 use Rattle.parser.specs.declared.Run.{Run}
@@ -52,12 +53,12 @@ word_held s d = rw s (d.0.held, d.1)
 module _ {src t o e : List ℕ} {st : ParserRun} {x : Seen} (s : x ≡ st.run.seen) where
   pub unknown_read : {classes t₁ o₁ e₁ e₂ : List ℕ} {st₁ st₂ : ParserRun} {f : Fault} → (Reading src classes st.run.seen) × (st.run.seen.kind ≡ 0 → ⊥)
       → Reads src (finish (tail_errors false (leaf_seen src x))) (stand t o e st) (stand t₁ o₁ e₁ st₁)
-      → f ≡ named_fault ErrorKind.unknown_directive x.start x.end x → Logs f e₁ st₁ e₂ st₂
+      → f ≡ named_fault UnknownDirective x.start x.end x → Logs (met f) e₁ st₁ e₂ st₂
       → Reads src (unknown (leaf_seen src st.run.seen)) (stand t o e st) (stand t₁ o₁ e₂ st₂)
   unfolding unknown Held
   unknown_read {f = f} d y g l =
       let w : Leaf = leaf_seen src st.run.seen in
-      let q : f ≡ fault_of (named_error ErrorKind.unknown_directive w.start (stop w) w) = g ∙ rw (s, (d.0.held d.1).0) refl in
+      let q : met f ≡ fault_of (named_error ErrorKind.unknown_directive w.start (stop w) w) = ap met g ∙ rw (s, (d.0.held d.1).0) refl in
       reads_is (reads_raise _ (finish_errs _) y (rw q at l)) refl
 
   pub directive_read : (d : Directive) {t₁ t₂ o₂ e₂ t₃ : List ℕ} {st₁ st₂ st₃ : ParserRun} {m : Stand} → Took src bump t st t₁ st₁
@@ -126,11 +127,11 @@ module _ {src : List ℕ} {classes : List SyntaxKind} {u : Seen} (d : Unended sr
 
 pub line_of_unended : {src : List ℕ} {classes : List SyntaxKind} {st : ParserRun} {x : Seen} {t o e t₁ e₂ t₃ o₃ : List ℕ} {st₁ st₂ st₃ : ParserRun} {r : Run} {f : Fault} → Unended src classes st.run.seen
     → x ≡ st.run.seen → Takes src (group_at src st.run.seen) t st.run t₁ r → st₁ ≡ with_run st r → f ≡ end_fault x.start x.end Kind.RPAREN 0
-    → Logs f e st₁ e₂ st₂ → Moves (Shut Kind.ERROR) t₁ o st₂ t₃ o₃ st₃
+    → Logs (met f) e st₁ e₂ st₂ → Moves (Shut Kind.ERROR) t₁ o st₂ t₃ o₃ st₃
     → Ends src (control_line (length src) relexed (unread src st.run.seen)) (stand t o e st) (stand t₃ o₃ e₂ st₃)
 unfolding Held
 line_of_unended {src} {st = st} {o = o} {e = e} {f = f} d s y w g l z =
-    let q : f ≡ fault_of (no_rparen (leaf_seen src st.run.seen)) = g ∙ rw (s, (d.line.reading.held (some_lparen d)).0) refl in
+    let q : met f ≡ fault_of (no_rparen (leaf_seen src st.run.seen)) = ap met g ∙ rw (s, (d.line.reading.held (some_lparen d)).0) refl in
     ends_always (at_unended d) (reads_raise _ refl ((group_took y w).reads o e) (rw q at l)) z
 
 -- What follows a HASH, by the leaf that is seen, x.

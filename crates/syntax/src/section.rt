@@ -30,7 +30,7 @@ fn unknown(
 {
     let x = parser_run::peek(state);
     let a = line::finish(src, classes, table, levels, errors, state, x, false);
-    let e = fault::named_error(ErrorKind::UNKNOWN_DIRECTIVE, x.start, x.end, x);
+    let e = fault::named_error(ErrorKind::UnknownDirective, x.start, x.end, x);
     parser_run::push_error(errors, a, e)
 }
 

@@ -6,7 +6,7 @@ ghost use Rattle.definition.specs.Text.{same};
 ghost use Rattle.definition.specs.Unescaped.{unescaped};
 ghost use Rattle.word.specs.Word.{letters, spelt_as, Finds, directive_at};
 
-use syntax_kind::kind::Kind;
+use syntax_kind::number::Kind;
 
 // The places of the fourteen words in the table of directives, and what stands for an unknown word.
 #[derive(Clone, Copy)]
