@@ -19,9 +19,10 @@ use Rattle.parser.specs.Rest.{leaf_seen, unread}
 use Rattle.parser.specs.Passed.{Behind}
 use Rattle.parser.proofs.Taking.{none_seen, one_seen, trivia_tested, peeked}
 use Rattle.condition.specs.Steps.{left, Stands, Standing, Follows}
+use Rattle.syntax_kind.specs.declared.kind.SyntaxKind.{SyntaxKind}
 
 -- What a reader asks, at another leaf.
-pub standing_at : {src classes : List ℕ} {x y : Seen} → Standing src classes x → Stands src y → Standing src classes y
+pub standing_at : {src : List ℕ} {classes : List SyntaxKind} {x y : Seen} → Standing src classes x → Stands src y → Standing src classes y
 standing_at h s = record { table = h.table; short = h.short; stands = s }
 
 -- The leaf behind trivia.

@@ -17,6 +17,7 @@ use Rattle.arithmetic.specs.Told.{told, joined, signed_by}
 use Rattle.parser.specs.declared.Seen.{Seen}
 use Rattle.parser.specs.Rest.{unread, Held, trivial}
 use Rattle.condition.specs.declared.Step.{Step}
+use Rattle.syntax_kind.specs.declared.kind.SyntaxKind.{SyntaxKind}
 
 -- The leaves that are left, without trivia.
 abbrev pub left : List ℕ → Seen → List Leaf
@@ -28,7 +29,7 @@ pub record Stands (src : List ℕ) (x : Seen) : Type 0 where
   pub no_trivia : trivial x.kind ≡ false
 
 -- What every reader asks: the table of classes, a source that is not refused for its length, and such a leaf.
-pub record Standing (src classes : List ℕ) (x : Seen) : Type 0 where
+pub record Standing (src : List ℕ) (classes : List SyntaxKind) (x : Seen) : Type 0 where
   pub table : classes ≡ class_table
   pub short : length src ≤ longest_source
   pub stands : Stands src x

@@ -65,7 +65,7 @@ module _ {src : List ℕ} {s : Seen} {b : Trivia} (p : Passes src s b) where
   ready_behind d n e = rw e (record { table = d.table; short = d.short; held = p.passed.next_held }, n)
 
 -- The trivia went to the writer, which stands at q in t₁ then.
-module _ {src classes t t₁ o e : List ℕ} {st : ParserRun} {b : Trivia} {q : Pen} {r : Run} (d : Reading src classes st.run.seen) (p : Passes src st.run.seen b)
+module _ {src : List ℕ} {classes : List SyntaxKind} {t t₁ o e : List ℕ} {st : ParserRun} {b : Trivia} {q : Pen} {r : Run} (d : Reading src classes st.run.seen) (p : Passes src st.run.seen b)
     (w : sheet t₁ q ≡ leafs (sheet t st.run.pen) (while (before b.next.start) (unread src b.first))) (i : r ≡ run_of b.next q) where
   -- Nothing is left,
   pub advance_end : {st' : ParserRun} → (st.run.seen.kind ≡ 0 → ⊥) → b.next.kind ≡ 0 → st' ≡ with_run st r → Advances src (stand t o e st) (stand t₁ o e st')

@@ -51,7 +51,7 @@ module _ {src : List ℕ} {classes : List SyntaxKind} {s : Seen} {b : Trivia} (h
   hashed_front st i e = rw (e, i) h
 
 -- and what was read there is read into the table.
-module _ {src classes t o e : List ℕ} {st : ParserRun} {b : Trivia} (h : Hashed src classes st.run.seen b) (d : Grounded src (stand t o e st))
+module _ {src : List ℕ} {classes : List SyntaxKind} {t o e : List ℕ} {st : ParserRun} {b : Trivia} (h : Hashed src classes st.run.seen b) (d : Grounded src (stand t o e st))
     {a : ℕ} (s : a ≡ tail_start (length t) st.run.pen.n) where
   pub hash_tail : {front r st' : ParserRun} {x y : Run} {p q : Pen} {u o' e' : List ℕ} → p ≡ at_front a st.run.pen → x ≡ run_of st.run.seen p → front ≡ with_run st x
       → Reads src (hash_reader (length src)) (stand (take (length t - a) (drop a t)) o e front) (stand u o' e' r)

@@ -150,7 +150,7 @@ module _ {src : List ℕ} {st : ParserRun} {x : Seen} (s : x ≡ st.run.seen) wh
   expect_here {k} {o = o} {e = e} z i y =
       reads_is (y.reads o e) (one_found (length src) k (unread src st.run.seen) (seen_tested src st s (is_tested k z) (eq-eqb x.kind k i)))
 
-  pub expect_other : {k : ℕ} {classes t o e t' o' e' : List ℕ} {st₁ st₂ : ParserRun} {f : Fault} → (k ≡ 0 → ⊥) → Reading src classes st.run.seen → (x.kind ≡ k → ⊥)
+  pub expect_other : {k : ℕ} {classes : List SyntaxKind} {t o e t' o' e' : List ℕ} {st₁ st₂ : ParserRun} {f : Fault} → (k ≡ 0 → ⊥) → Reading src classes st.run.seen → (x.kind ≡ k → ⊥)
       → Quiet src (wrap Kind.ERROR bump) t o st t' o' st₁ → f ≡ missing_fault (length src) x k 0 → Logs (met f) e st₁ e' st₂
       → Reads src (expect_one (length src) k) (stand t o e st) (stand t' o' e' st₂)
   unfolding wrap
@@ -167,7 +167,7 @@ module _ {src : List ℕ} {st : ParserRun} {x : Seen} (s : x ≡ st.run.seen) wh
         let v = seen_tested src st s (either_tested a b) (sym p ∙ q) in
         record { flat = record { reads = λ o. reads_is (w.reads o e) (rw (v, expect_any) refl) }; found_is = sym v }
 
-    pub any_missed : {classes e e' : List ℕ} {st₂ : ParserRun} {f : Fault} → Reading src classes st.run.seen → y ≡ false → f ≡ missing_fault (length src) x a b
+    pub any_missed : {classes : List SyntaxKind} {e e' : List ℕ} {st₂ : ParserRun} {f : Fault} → Reading src classes st.run.seen → y ≡ false → f ≡ missing_fault (length src) x a b
         → Logs (met f) e st₁ e' st₂ → Expects src a b t e st t' e' st₂ false
     unfolding expect_any
     any_missed {e = e} d q g l =

@@ -43,13 +43,14 @@ use Rattle.file.specs.Ground.{Grounded}
 use Rattle.file.specs.Advance.{items_of}
 use Rattle.file.proofs.Grounds.{front_lies}
 use Rattle.reading.specs.Parsed.{Begins, Lent, Parsed, ParsedBody, Ended}
+use Rattle.syntax_kind.specs.declared.kind.SyntaxKind.{SyntaxKind}
 
 -- Nothing is read or written yet.
 pub begins_is : (src : List ℕ) (s : Seen) (p : Pen) (r : Run) → Sees src 0 false s → p ≡ pen_at 0 0 0 0 → r ≡ run_of s p
     → Begins src (record { run = r; errs = 0; over = false })
 begins_is src s p r x i e = rw e (record { rest = x.rest; held = x.held; front = i; no_errs = refl; not_over = refl })
 
-module _ {src classes t o : List ℕ} {st : ParserRun} (b : Begins src st) (l : Lent src classes t o) where
+module _ {src : List ℕ} {classes : List SyntaxKind} {t o : List ℕ} {st : ParserRun} (b : Begins src st) (l : Lent src classes t o) where
   pub begun_reading : Reading src classes st.run.seen
   begun_reading = record { table = l.table; short = l.short; held = b.held }
 

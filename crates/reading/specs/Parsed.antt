@@ -15,6 +15,7 @@ use Rattle.parser.specs.Rest.{unread, Held}
 use Rattle.rows.specs.declared.BodyRow.{BodyRow}
 use Rattle.parser_run.specs.declared.ParserRun.{ParserRun}
 use Rattle.tables.specs.declared.Ends.{Ends}
+use Rattle.syntax_kind.specs.declared.kind.SyntaxKind.{SyntaxKind}
 
 -- Where a reading begins: all leaves are left to read, and nothing was written.
 pub record Begins (src : List ℕ) (st : ParserRun) : Type 0 where
@@ -26,7 +27,7 @@ pub record Begins (src : List ℕ) (st : ParserRun) : Type 0 where
 
 -- What it is lent: the table of classes, a source that is not refused for its length, an entry table that ends before the far place, and levels of
 -- which none is open.
-pub record Lent (src classes t o : List ℕ) : Type 0 where
+pub record Lent (src : List ℕ) (classes : List SyntaxKind) (t o : List ℕ) : Type 0 where
   pub table : classes ≡ class_table
   pub short : length src ≤ longest_source
   pub near : length t < far

@@ -53,7 +53,7 @@ module _ {src : List ℕ} {classes : List SyntaxKind} {s : Seen} {q q' : Trivia}
       let a : after trivia (unread src s) ≡ unread src q.next = sym (rw d.hashed.passes.first_is at d.hashed.passes.passed.rest) in
       ap (λ ts. after trivia (bump ts).rest) (a ∙ one_seen src q.next some_hash) ∙ ap (after trivia) (sym d.behind.first_is) ∙ sym d.behind.passed.rest
 
-module _ {src classes t : List ℕ} {st : ParserRun} {q q' : Trivia} (d : Fronted src classes st.run.seen q q') where
+module _ {src : List ℕ} {classes : List SyntaxKind} {t : List ℕ} {st : ParserRun} {q q' : Trivia} (d : Fronted src classes st.run.seen q q') where
   pub front_took : {t₁ t₂ t₃ : List ℕ} {a b c : Pen} {r : Run} {st' : ParserRun} → sheet t₁ a ≡ leafs (sheet t st.run.pen) (while (before q.next.start) (unread src q.first))
       → sheet t₂ b ≡ leafed q.next.kind q.next.start q.next.end (sheet t₁ a)
       → sheet t₃ c ≡ leafs (sheet t₂ b) (while (before q'.next.start) (unread src q'.first)) → r ≡ run_of q'.next c → st' ≡ with_run st r

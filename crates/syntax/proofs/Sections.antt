@@ -51,7 +51,7 @@ pub word_held : {src : List ℕ} {classes : List SyntaxKind} {x u : Seen} → x 
 word_held s d = rw s (d.0.held, d.1)
 
 module _ {src t o e : List ℕ} {st : ParserRun} {x : Seen} (s : x ≡ st.run.seen) where
-  pub unknown_read : {classes t₁ o₁ e₁ e₂ : List ℕ} {st₁ st₂ : ParserRun} {f : Fault} → (Reading src classes st.run.seen) × (st.run.seen.kind ≡ 0 → ⊥)
+  pub unknown_read : {classes : List SyntaxKind} {t₁ o₁ e₁ e₂ : List ℕ} {st₁ st₂ : ParserRun} {f : Fault} → (Reading src classes st.run.seen) × (st.run.seen.kind ≡ 0 → ⊥)
       → Reads src (finish (tail_errors false (leaf_seen src x))) (stand t o e st) (stand t₁ o₁ e₁ st₁)
       → f ≡ named_fault UnknownDirective x.start x.end x → Logs (met f) e₁ st₁ e₂ st₂
       → Reads src (unknown (leaf_seen src st.run.seen)) (stand t o e st) (stand t₁ o₁ e₂ st₂)
