@@ -57,14 +57,14 @@ pub fn word(src: &[u8], table: &Classes, at: usize) -> Token
     ensures { told result ≡ from state.ident 0 at src.now }
 {
     if stretch::stand(src, at, STEP) {
-        if let Some(k) = stretch::first_failing::<STEP, _>(src, at, &in_word) {
-            let end = at + k;
-            if src[end] != b'\\' {
+        match stretch::first_failing::<STEP, _>(src, at, &in_word) {
+            Some(k) if src[at + k] != b'\\' => {
                 return Token {
                     kind: SyntaxKind::IDENT_KW,
-                    end,
+                    end: at + k,
                 };
             }
+            _ => {}
         }
     }
     ident(src, table, at)
