@@ -19,7 +19,8 @@ pub fn ident(src: &[u8], table: &Classes, at: usize) -> Token
     while i < src.len() {
         let b = src[i];
         match class_of(table, b) {
-            SyntaxKind::IDENT_KW | SyntaxKind::DIGITS => i += 1,
+            // DEFINED is no entry of the table: with it the three are told by one comparison.
+            SyntaxKind::IDENT_KW | SyntaxKind::DEFINED | SyntaxKind::DIGITS => i += 1,
             _ if b == b'_' => i += 1,
             _ if b == b'\\' => {
                 let w = newline::newline_at(src, i + 1);
