@@ -49,7 +49,7 @@ const STEP: usize = 32;
 fn in_word(b: u8) -> bool
     ensures { result ≡ Words·in_word b }
 {
-    matches!(b, b'A'..=b'Z' | b'a'..=b'z' | b'0'..=b'9' | b'_')
+    b.is_ascii_alphabetic() || b.is_ascii_digit() || b == b'_'
 }
 
 // The same, where it ends looked for at once: in text a processor does not foresee the end of a loop over an identifier.
