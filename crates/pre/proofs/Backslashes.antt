@@ -9,7 +9,7 @@ use Rattle.definition.specs.Pre.{alone, backslash, done}
 use Rattle.text.specs.Newline.{newline_len}
 use Rattle.pre.specs.Scan.{from, token}
 use Rattle.pre.proofs.Froms.{done_is}
-use Rattle.pre.proofs.Scans.{back_alone, back_go, back_stop, newline_fits}
+use Rattle.pre.proofs.Scans.{back_alone, back_go, back_stop}
 
 module _ (s : List ℕ) (at w : ℕ) (v : w ≡ newline_len (chars (drop at s))) where
   pub back_bare : w ≡ 0 → token Kind.BACKSLASH at ≡ from (backslash alone) 0 at s

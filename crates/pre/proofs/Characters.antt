@@ -1,6 +1,6 @@
 -- A token of one character of several bytes.
 use Rattle.std.specs.Prelude.{if◌then◌else◌}
-use Prim.Native.Nat.{ℕ, ◌+◌, ◌-◌, ◌<◌, ◌≤◌}
+use Prim.Native.Nat.{ℕ, ◌+◌, ◌<◌, ◌≤◌}
 use mathlib.Core.Path.{refl, sym, ◌∙◌, ◌≡◌}
 use mathlib.Core.Bool.{false}
 use mathlib.Core.List.{List}

@@ -229,6 +229,17 @@ module _ (b : ℕ) (k : SyntaxKind) (c : number k ≡ class_number b) where
       (entry b (number k) c).punct_is
       (other_kind k kind.IDENT_KW h.no_letter) (other_kind k kind.DIGITS h.no_digit) (other_kind k kind.NEWLINE h.no_newline) (other_kind k kind.WS h.no_blank)
 
+  pub no_defined : k ≡ kind.DEFINED → ⊥
+  unfolding class_number class_number_of punct
+  no_defined h = go (class b) (sym (rw h at c))
+    where
+      go : (x : Class) → class_number_of x b ≡ Kind.DEFINED → ⊥
+      go LETTER e = omega arith
+      go DIGIT e = omega arith
+      go NEWLINE e = omega arith
+      go WS e = omega arith
+      go PUNCT e = omega (arith, find_low b puncts Kind.PERIOD (omega arith))
+
   -- Letters, digits, blanks and ASCII that is no newline are characters of one byte.
   pub closed_letter : k ≡ kind.IDENT_KW → Closed b
   closed_letter h =

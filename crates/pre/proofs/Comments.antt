@@ -1,5 +1,5 @@
 -- Comments, and the slash before them, from a place of the source on.
-use Prim.Native.Nat.{ℕ, ◌+◌, ◌-◌, ◌≤◌, ◌<◌, ◌^◌, max}
+use Prim.Native.Nat.{ℕ, ◌+◌, ◌-◌, ◌≤◌, ◌<◌, max}
 use native.Mathlib.Decide.{dec_lt}
 use mathlib.Core.Path.{◌≡◌, refl, sym, ap, ◌∙◌}
 use mathlib.Core.Bool.{Bool, false, true}
@@ -18,8 +18,7 @@ use Rattle.text.proofs.Newlines as newlines
 use Rattle.syntax_kind.specs.Number.{number}
 use Rattle.syntax_kind.specs.declared.kind.SyntaxKind.{SyntaxKind}
 use Rattle.syntax_kind.specs.declared.kind.SyntaxKind.TheVariants as kind
-use Rattle.syntax_kind.proofs.Numbers.{other_kind}
-use Rattle.pre.specs.Table.{ClassNumber, class_number}
+use Rattle.pre.specs.Table.{class_number}
 use Rattle.pre.specs.Scan.{Token, token, from, width_at}
 use Rattle.pre.specs.Passes.{Passes}
 use Rattle.pre.proofs.Classes.{closed_is, no_newline}

@@ -16,7 +16,7 @@ use Rattle.theorems.proofs.Lexing.Chars.{char_row}
 use Rattle.theorems.proofs.Lexing.Walk.{walk_same, walk_more, walk_stop, walk_fits, zero_none, walk_free, walk_behind}
 use Rattle.text.specs.Newline.{newline_len}
 use Rattle.text.proofs.Newlines.{newline_is}
-use Rattle.pre.specs.Scan.{Token, token, from}
+use Rattle.pre.specs.Scan.{token, from}
 use Rattle.pre.proofs.Classes.{Closed}
 
 -- The end of the source ends the token.

@@ -8,6 +8,5 @@ pub mod Passings
 pub mod Scans
 pub mod States
 pub mod Strings
-pub mod Truth
 pub mod Values
 pub mod Words

@@ -1,5 +1,5 @@
 -- Strings, which one byte ends.
-use Rattle.std.specs.Prelude.{ℕ, ◌<◌, ◌≡◌, List, true}
+use Rattle.std.specs.Prelude.{ℕ, ◌<◌, ◌≡◌, List}
 use Rattle.std.proofs.Math.Option.{some}
 use Rattle.definition.specs.SyntaxKind.{Kind}
 use Rattle.definition.specs.Pre.{State, done, more, kind_of}

@@ -19,7 +19,8 @@ pub fn ident(src: &[u8], table: &Classes, at: usize) -> Token
     while i < src.len() {
         let b = src[i];
         match class_of(table, b) {
-            SyntaxKind::IDENT_KW | SyntaxKind::DIGITS => i += 1,
+            // DEFINED is no entry of the table: with it the three are told by one comparison.
+            SyntaxKind::IDENT_KW | SyntaxKind::DEFINED | SyntaxKind::DIGITS => i += 1,
             _ if b == b'_' => i += 1,
             _ if b == b'\\' => {
                 let w = newline::newline_at(src, i + 1);
@@ -48,7 +49,7 @@ const STEP: usize = 32;
 fn in_word(b: u8) -> bool
     ensures { result ≡ Words·in_word b }
 {
-    matches!(b, b'A'..=b'Z' | b'a'..=b'z' | b'0'..=b'9' | b'_')
+    b.is_ascii_alphabetic() || b.is_ascii_digit() || b == b'_'
 }
 
 // The same, where it ends looked for at once: in text a processor does not foresee the end of a loop over an identifier.
@@ -57,14 +58,14 @@ pub fn word(src: &[u8], table: &Classes, at: usize) -> Token
     ensures { told result ≡ from state.ident 0 at src.now }
 {
     if stretch::stand(src, at, STEP) {
-        if let Some(k) = stretch::first_failing::<STEP, _>(src, at, &in_word) {
-            let end = at + k;
-            if src[end] != b'\\' {
+        match stretch::first_failing::<STEP, _>(src, at, &in_word) {
+            Some(k) if src[at + k] != b'\\' => {
                 return Token {
                     kind: SyntaxKind::IDENT_KW,
-                    end,
+                    end: at + k,
                 };
             }
+            _ => {}
         }
     }
     ident(src, table, at)

@@ -14,14 +14,7 @@ use syntax_kind::kind::SyntaxKind;
 const LEADING: u8 = 192;
 
 // A token that begins at `at` with the punctuation b, whose entry in the table is `kind`.
-pub fn punct(
-    src: &[u8],
-    table: &Classes,
-    at: usize,
-    b: u8,
-    kind: SyntaxKind,
-    angle: bool,
-) -> Token
+pub fn punct(src: &[u8], table: &Classes, at: usize, b: u8, kind: SyntaxKind, angle: bool) -> Token
     requires { (table.now ≡ class_table) × ((at < length src.now) × (IsPunct kind × (number kind ≡ class_number b))) }
     ensures { told result ≡ from (begin angle b) b (at + 1) src.now }
 {

@@ -1,7 +1,7 @@
 -- The character ends before a byte that does not go on with it, or with the source.
 use Rattle.std.proofs.Common.{rules}
 use native.Mathlib.Omega.{arith}
-use Rattle.pre.proofs.Characters.{wide_begun, wide_low, wide_high, wide_goes, wide_ended}
+use Rattle.pre.proofs.Characters.{wide_goes, wide_ended}
 use Rattle.pre.proofs.character.rest_of_character.Goals as goal
 
 pub loop-i-preserved : goal.loop-i-preserved

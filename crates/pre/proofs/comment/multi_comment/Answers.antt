@@ -1,7 +1,6 @@
 -- A star takes the next character, which closes the comment if it is a slash.
 use Rattle.std.proofs.Common.{rules}
-use native.Mathlib.Omega.{arith}
-use Rattle.pre.proofs.Comments.{star_begun, star_nearer, star_ended, star_goes, star_cut, star_closes, star_again}
+use Rattle.pre.proofs.Comments.{star_ended, star_goes, star_cut, star_closes, star_again}
 use Rattle.pre.proofs.comment.multi_comment.Goals.{else-src-i-eq42-via-then-src-i-eq42+else-i-src, else-src-i-eq42-via-else-src-i-eq42}
 use Rattle.pre.proofs.comment.multi_comment.Goals as goal
 

@@ -1,7 +1,6 @@
 -- A backslash takes the next character, and a newline ends the comment.
 use Rattle.std.proofs.Common.{rules}
-use native.Mathlib.Omega.{arith}
-use Rattle.pre.proofs.Comments.{line_begun, line_ended, line_stops, line_goes, line_cut, line_pass, line_width}
+use Rattle.pre.proofs.Comments.{line_ended, line_stops, line_goes, line_cut, line_pass, line_width}
 use Rattle.pre.proofs.comment.single_comment.Goals.{else-b-eq92-via-then-b-eq92+else-i-src, else-b-eq92-via-else-b-eq92}
 use Rattle.pre.proofs.comment.single_comment.Goals as goal
 

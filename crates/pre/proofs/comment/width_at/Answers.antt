@@ -1,4 +1,3 @@
-use Rattle.std.proofs.Common.{rules}
 use Rattle.pre.proofs.Comments.{width_is}
 use Rattle.pre.proofs.comment.width_at.Goals as goal
 

@@ -7,7 +7,7 @@ use mathlib.Core.Logic.{◌⊎◌, inl, inr}
 use mathlib.Core.Option.{some}
 use lib.Dec.{eqb}
 use lib.ListN.{length, drop, get_or}
-use borrow.Author.Tests.{ne_eqb, eq-eqb}
+use borrow.Author.Tests.{ne_eqb}
 use Rattle.std.proofs.Common.{rules}
 use Rattle.definition.specs.Text.{byte}
 use Rattle.definition.specs.SyntaxKind.{Kind}
@@ -67,7 +67,7 @@ pub loop-i-preserved-in-DIGITS : goal.loop-i-preserved-in-DIGITS
 loop-i-preserved-in-DIGITS c = search (digit, rules)
 
 pub loop-i-preserved-in-IDENT_KW : goal.loop-i-preserved-in-IDENT_KW
-loop-i-preserved-in-IDENT_KW c = 
+loop-i-preserved-in-IDENT_KW c =
     elim c.match-matches.branch [
       | in-101 w ↦ let p = w.in-101 in search (an_e, letter, rules)
       | in_default-matches w ↦ let p = w.in_default-matches in search (no_e, letter, rules)

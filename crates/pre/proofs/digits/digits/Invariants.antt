@@ -1,5 +1,5 @@
 -- `digits` reads the token that began at `at`.
-use Rattle.std.proofs.Common.{ℕ, ◌-◌, length, false}
+use Rattle.std.proofs.Common.{◌-◌, length, false}
 use Rattle.definition.specs.Pre.{digits}
 use Rattle.pre.proofs.Scans.{Same}
 use Rattle.pre.proofs.digits.digits.Given as goal

@@ -15,7 +15,7 @@ use Rattle.syntax_kind.specs.declared.kind.SyntaxKind.{SyntaxKind}
 use Rattle.syntax_kind.specs.declared.kind.SyntaxKind.TheVariants as kind
 use Rattle.pre.specs.Table.{class_number}
 use Rattle.pre.specs.Scan.{from, token}
-use Rattle.pre.proofs.Classes.{closed_is, closed_letter, closed_digit}
+use Rattle.pre.proofs.Classes.{no_defined, closed_is, closed_letter, closed_digit}
 use Rattle.pre.proofs.States.{ident_letter, ident_digit, ident_stops}
 use Rattle.pre.proofs.Scans.{Same, same_end, same_go, same_stop, same_bare, same_cont, back_ident, passed_fits}
 use Rattle.pre.proofs.ident.ident.Goals as goal
@@ -46,9 +46,10 @@ module _ (s : List ℕ) (at i : ℕ) (k : Same s ident at ident i) where
       digit : r ≡ kind.DIGITS → Same s ident at ident (i + 1)
       digit z = same_go s ident at ident i k h ident (closed_digit _ r e z) (ident_digit _ r e z)
 
-      word : (r ≡ kind.IDENT_KW) ⊎ (r ≡ kind.DIGITS) → Same s ident at ident (i + 1)
+      word : (r ≡ kind.IDENT_KW) ⊎ ((r ≡ kind.DEFINED) ⊎ (r ≡ kind.DIGITS)) → Same s ident at ident (i + 1)
       word (inl z) = letter z
-      word (inr z) = digit z
+      word (inr (inl z)) = absurd (no_defined _ r e z)
+      word (inr (inr z)) = digit z
 
       stops : (r ≡ kind.IDENT_KW → ⊥) → (r ≡ kind.DIGITS → ⊥) → (get_or s i 0 ≡ byte "_" → ⊥) → (get_or s i 0 ≡ byte "\\" → ⊥) → token Kind.IDENT_KW i ≡ from ident 0 at s
       unfolding kind_of

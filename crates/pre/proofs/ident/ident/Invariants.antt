@@ -1,5 +1,5 @@
 -- `ident` reads the token that began at `at`.
-use Rattle.std.proofs.Common.{ℕ, ◌-◌, length}
+use Rattle.std.proofs.Common.{◌-◌, length}
 use Rattle.definition.specs.Pre.{ident}
 use Rattle.pre.proofs.Scans.{Same}
 use Rattle.pre.proofs.ident.ident.Given as goal

@@ -1,5 +1,5 @@
 -- `punct` reads a token that begins with punctuation.
-use Prim.Native.Nat.{ℕ, ◌+◌, ◌≤◌, ◌<◌}
+use Prim.Native.Nat.{ℕ, ◌+◌, ◌<◌}
 use mathlib.Core.Path.{◌≡◌, refl, sym, ◌∙◌}
 use mathlib.Core.Bool.{Bool, true, false}
 use mathlib.Core.List.{List}
@@ -13,7 +13,7 @@ use Rattle.syntax_kind.specs.declared.kind.SyntaxKind.{SyntaxKind}
 use Rattle.pre.specs.Table.{class_number, class_number_of, punct, IsPunct}
 use Rattle.pre.specs.Scan.{Token, token, from}
 use Rattle.pre.proofs.Classes.{closed, closed_is, closed_punct}
-use Rattle.pre.proofs.States.{Plain, begin_slash, begin_backslash, begin_punct}
+use Rattle.pre.proofs.States.{begin_slash, begin_backslash, begin_punct}
 use Rattle.pre.proofs.Froms.{shut, done_is}
 use Rattle.pre.proofs.punct.punct.Goals as goal
 

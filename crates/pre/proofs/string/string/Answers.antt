@@ -1,5 +1,4 @@
 -- The string ends at the closing byte, or with the source.
-use Rattle.std.proofs.Common.{rules}
 use native.Mathlib.Omega.{arith}
 use Rattle.pre.proofs.Strings.{string_begins, string_closes, string_goes, string_end}
 use Rattle.pre.proofs.string.string.Goals as goal
