@@ -11,11 +11,7 @@ pub fn room(n: u32) -> usize
     ensures value { result ≡ Rubbish·room n }
     ensures upper_bound { result ≤ most }
 {
-    let room = n as usize;
-    if MOST < room {
-        return MOST;
-    }
-    room
+    (n as usize).min(MOST)
 }
 
 pub fn numbers() -> [u32; MOST]
