@@ -1,7 +1,10 @@
 -- The numbers that answer a call, and what is behind them.
-use Rattle.definition.specs.Text.{ℕ, List, [], ltb, length}
+use Rattle.definition.specs.Text.{ℕ, List, [], ltb, length, map}
 use Rattle.definition.specs.Calls.{Reading, reading, Filled, reading_body, listing_tokens, building_lines, unescaping, Looked, looking_up, Pasted, pasting}
 use Rattle.std.specs.Prelude.{drop, ◌∷◌, ◌++◌, if◌then◌else◌, Option, None}
+use Rattle.std.proofs.Common.{Bor, MutBor}
+use Rattle.text.specs.declared.Counted.{Counted}
+use Rattle.table.specs.Fills.{Fills}
 use Rattle.records.specs.Numbers.{number, numbers}
 use Rattle.records.specs.Rubbish.{most, room}
 use Rattle.records.specs.Stand.{passed}
@@ -20,6 +23,12 @@ looked_numbers o = o.refused ∷ o.line ∷ o.column ∷ []
 
 abbrev pub pasted_numbers : Pasted → List ℕ
 pasted_numbers o = o.refused ∷ o.kind ∷ []
+
+-- Each run of a call fills its table as an outcome has it, where these are the numbers of the table's values.
+abbrev pub FillsBy : {T : Type 0} → (Bor (List ℕ) → MutBor (List T) → Counted → MutBor (List T) → Type 0) → (List ℕ → ℕ → Filled) → (T → ℕ) → Type 0
+FillsBy {T} runs outcome value =
+    (input : Bor (List ℕ)) (before : MutBor (List T)) (r : Counted) (after : MutBor (List T)) → runs input before r after
+    → Fills (outcome input.now (length before.now)) r (map value after.now)
 
 -- A call with a table of n numbers,
 abbrev pub table_behind : (List ℕ → ℕ → Filled) → ℕ → List ℕ → List ℕ → Option (List ℕ)

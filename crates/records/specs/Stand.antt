@@ -1,5 +1,5 @@
 -- Whether numbers stand in a file, one behind another.
-use Rattle.std.specs.Prelude.{◌∷◌, if◌then◌else◌, drop, Option, Some, None}
+use Rattle.std.specs.Prelude.{◌≡◌, ◌∷◌, if◌then◌else◌, drop, Option, Some, None}
 use Rattle.definition.specs.Text.{ℕ, List, [], eqb, leb, ltb, length, get_or}
 use Rattle.records.specs.Numbers.{pair, number}
 
@@ -19,3 +19,7 @@ stands x s = if leb (width s) (length s) then if eqb (value s) x then Some (drop
 unfoldable pub passed : List ℕ → List ℕ → Option (List ℕ)
 passed [] s = Some s
 passed (x ∷ row) s = elim (stands x s) [ Some rest ↦ passed row rest | None ↦ None ]
+
+-- Values convert to these numbers alone.
+abbrev pub ConvertsBy : {T : Type 0} → (T → ℕ → Type 0) → (T → ℕ) → Type 0
+ConvertsBy {T} converts view = (x : T) (y : ℕ) → converts x y → y ≡ view x

@@ -5,8 +5,8 @@ ghost use Rattle.definition.specs.Calls.{Filled, reading, looking_up};
 ghost use Rattle.reading.specs.Promise.{left_by};
 ghost use Rattle.table.specs.Fills.{Fills};
 ghost use Rattle.records.specs.Rubbish.{most};
-ghost use Rattle.records.specs.Stand.{passed as Stand·passed};
-ghost use Rattle.records.specs.Answers.{filled_numbers, reading_numbers, looked_numbers, read_behind, lookup_behind, paste_behind, answer_behind};
+ghost use Rattle.records.specs.Stand.{passed as Stand·passed, ConvertsBy};
+ghost use Rattle.records.specs.Answers.{FillsBy, filled_numbers, reading_numbers, looked_numbers, read_behind, lookup_behind, paste_behind, answer_behind};
 
 use crate::number::{decode, number};
 use crate::rubbish;
@@ -50,7 +50,7 @@ fn filled<'a, T: Copy + Into<u32>, F: FnOnce(&[u8], &mut [T]) -> Counted>(
     s: &'a [u8],
 ) -> Option<&'a [u8]>
     requires { F.IsAlwaysCallable call }
-    ensures { (outcome : List ℕ → ℕ → Filled) (value : T → ℕ) → ((x : T) (y : ℕ) → T.converts x y → y ≡ value x) → ((a : _) (b : _) (r : _) (b' : _) → F.post call a b r b' → Fills (outcome a.now (length b.now)) r (map value b'.now)) → option_copied result ≡ Stand·passed (filled_numbers (outcome src.now (length table.old))) s.now }
+    ensures { (outcome : List ℕ → ℕ → Filled) (value : T → ℕ) → ConvertsBy T.converts value → FillsBy (F.post call) outcome value → option_copied result ≡ Stand·passed (filled_numbers (outcome src.now (length table.old))) s.now }
 {
     let got = call(src, table);
     let rest = passed(&[got.refusal, got.count], s)?;

@@ -1,14 +1,11 @@
 // Whether numbers stand in a file, one behind another. Each function answers what is behind them; none, if they do not.
 ghost use Rattle.std.specs.Prelude.{ℕ, ◌≡◌, ◌≤◌, ◌<◌, length, drop, map, MatchOption, option_copied};
-ghost use Rattle.records.specs.Stand.{width, value, stands as Stand·stands, passed as Stand·passed};
+ghost use Rattle.records.specs.Stand.{width, value, stands as Stand·stands, passed as Stand·passed, ConvertsBy};
 
 use crate::number::{number, pair};
 
-// The first byte of a number that has two bytes more,
+// The first byte of a number that has two bytes more; the one above has four, and those below are numbers.
 const TWO_MORE: u8 = 254;
-
-// and of one that has four.
-const FOUR_MORE: u8 = 255;
 
 // The first number, and what is behind it.
 fn first(s: &[u8]) -> Option<(u32, &[u8])>
@@ -20,8 +17,8 @@ fn first(s: &[u8]) -> Option<(u32, &[u8])>
             let (x, rest) = pair(rest)?;
             Some((u32::from(x), rest))
         }
-        FOUR_MORE => number(rest),
-        x => Some((u32::from(x), rest)),
+        x if x < TWO_MORE => Some((u32::from(x), rest)),
+        _ => number(rest),
     }
 }
 
@@ -35,7 +32,7 @@ fn stands(x: u32, s: &[u8]) -> Option<&[u8]>
 
 // and those of a table or an output.
 pub fn passed<'a, T: Copy + Into<u32>>(t: &[T], s: &'a [u8]) -> Option<&'a [u8]>
-    ensures { (value : T → ℕ) → ((x : T) (y : ℕ) → T.converts x y → y ≡ value x) → option_copied result ≡ Stand·passed (map value t.now) s.now }
+    ensures { (value : T → ℕ) → ConvertsBy T.converts value → option_copied result ≡ Stand·passed (map value t.now) s.now }
 {
     let mut rest = s;
     for x in t {
