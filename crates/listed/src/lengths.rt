@@ -6,8 +6,7 @@ ghost use Rattle.records.specs.Rubbish.{most};
 ghost use Rattle.listed.specs.Answer.{nonzero as Answer·nonzero, Answers, Counts};
 
 use crate::print::ERROR;
-use records::rubbish;
-use records::rubbish::MOST;
+use records::rubbish::{MOST, NUMBER, Rooms};
 use std::io;
 use tables::{ENTRY, Reading};
 use text::Counted;
@@ -43,24 +42,17 @@ fn left<P: Print>(
 }
 
 // Reads a source with three tables of these lengths,
-fn read<P: Print>(
-    rt: &P,
-    words: &str,
-    src: &[u8],
-    a: usize,
-    b: usize,
-    c: usize,
-) -> (Reading, io::Result<()>)
-    requires a_le_most { a ≤ most }
-    requires b_le_most { b ≤ most }
-    requires c_le_most { c ≤ most }
-    ensures { Answers (reading src.now a b c) result.0 }
+fn read<P: Print>(rt: &P, words: &str, src: &[u8], rooms: Rooms) -> (Reading, io::Result<()>)
+    ensures { Answers (reading src.now rooms.entries rooms.errors rooms.lines) result.0 }
 {
-    let mut entries = rubbish::numbers();
-    let mut errors = rubbish::numbers();
-    let mut lines = rubbish::numbers();
-    let got = shader_reader::shader_read(src, &mut entries[..a], &mut errors[..b], &mut lines[..c]);
-    let printed = left(rt, words, got, &entries[..a], &errors[..b], &lines[..c]);
+    let mut entries = [NUMBER; MOST];
+    let mut errors = [NUMBER; MOST];
+    let mut lines = [NUMBER; MOST];
+    let entries = &mut entries[..rooms.entries];
+    let errors = &mut errors[..rooms.errors];
+    let lines = &mut lines[..rooms.lines];
+    let got = shader_reader::shader_read(src, entries, errors, lines);
+    let printed = left(rt, words, got, entries, errors, lines);
     (got, printed)
 }
 
@@ -69,46 +61,55 @@ fn body<P: Print>(rt: &P, words: &str, src: &[u8], room: usize) -> (Counted, io:
     requires { room ≤ most }
     ensures { Counts (reading_body src.now room) result.0 }
 {
-    let mut entries = rubbish::numbers();
-    let got = shader_reader::shader_define_body(src, &mut entries[..room]);
+    let mut entries = [NUMBER; MOST];
+    let entries = &mut entries[..room];
+    let got = shader_reader::shader_define_body(src, entries);
     let printed = println!(rt;
         "{words},{},{},{}",
         got.refusal,
         got.count,
-        nonzero(&entries[..room])
+        nonzero(entries)
     );
     (got, printed)
 }
 
 // Each table one number short, alone,
-fn alone<P: Print>(rt: &P, src: &[u8], a: usize, b: usize, c: usize) -> io::Result<()>
-    requires a_le_most { a ≤ most }
-    requires b_le_most { b ≤ most }
-    requires c_le_most { c ≤ most }
+fn alone<P: Print>(rt: &P, src: &[u8], rooms: Rooms) -> io::Result<()>
     ensures { Unit {0} }
 {
-    read(rt, "entries short", src, a.saturating_sub(1), b, c).1?;
-    read(rt, "lines short", src, a, b, c.saturating_sub(1)).1?;
-    if 0 < b {
-        read(rt, "errors short", src, a, b - 1, c).1?;
+    let Rooms {
+        entries,
+        errors,
+        lines,
+    } = rooms;
+    let fewer_entries = Rooms::at_most(entries.saturating_sub(1), errors, lines);
+    read(rt, "entries short", src, fewer_entries).1?;
+    let fewer_lines = Rooms::at_most(entries, errors, lines.saturating_sub(1));
+    read(rt, "lines short", src, fewer_lines).1?;
+    if errors != 0 {
+        read(
+            rt,
+            "errors short",
+            src,
+            Rooms::at_most(entries, errors - 1, lines),
+        )
+        .1?;
     }
     Ok(())
 }
 
 // with others, and no table at all.
-fn together<P: Print>(rt: &P, src: &[u8], a: usize, b: usize, c: usize) -> io::Result<()>
-    requires a_le_most { a ≤ most }
-    requires b_le_most { b ≤ most }
-    requires c_le_most { c ≤ most }
+fn together<P: Print>(rt: &P, src: &[u8], rooms: Rooms) -> io::Result<()>
     ensures { Unit {0} }
 {
-    let a_short = a.saturating_sub(1);
-    let b_short = b.saturating_sub(1);
-    let c_short = c.saturating_sub(1);
-    read(rt, "all short", src, a_short, b_short, c_short).1?;
-    read(rt, "none", src, 0, 0, 0).1?;
-    if 0 < b {
-        read(rt, "errors and lines short", src, a, b_short, c_short).1?;
+    let entries = rooms.entries.saturating_sub(1);
+    let errors = rooms.errors.saturating_sub(1);
+    let lines = rooms.lines.saturating_sub(1);
+    read(rt, "all short", src, Rooms::at_most(entries, errors, lines)).1?;
+    read(rt, "none", src, Rooms::at_most(0, 0, 0)).1?;
+    if rooms.errors != 0 {
+        let rest_fewer = Rooms::at_most(rooms.entries, errors, lines);
+        read(rt, "errors and lines short", src, rest_fewer).1?;
     }
     Ok(())
 }
@@ -117,17 +118,19 @@ fn together<P: Print>(rt: &P, src: &[u8], a: usize, b: usize, c: usize) -> io::R
 pub fn readings<P: Print>(rt: &P, src: &[u8]) -> io::Result<()>
     ensures { Unit {0} }
 {
-    let (got, printed) = read(rt, "long enough", src, MOST, MOST, MOST);
+    let (got, printed) = read(rt, "long enough", src, Rooms::at_most(MOST, MOST, MOST));
     printed?;
     if got.refusal != 0 {
-        return read(rt, "none", src, 0, 0, 0).1;
+        return read(rt, "none", src, Rooms::at_most(0, 0, 0)).1;
     }
-    let a = MOST.min(got.entries as usize * ENTRY);
-    let b = MOST.min(got.errors as usize * ERROR);
-    let c = MOST.min(got.lines as usize);
-    read(rt, "just enough", src, a, b, c).1?;
-    alone(rt, src, a, b, c)?;
-    together(rt, src, a, b, c)
+    let rooms = Rooms::at_most(
+        got.entries as usize * ENTRY,
+        got.errors as usize * ERROR,
+        got.lines as usize,
+    );
+    read(rt, "just enough", src, rooms).1?;
+    alone(rt, src, rooms)?;
+    together(rt, src, rooms)
 }
 
 // Reads it as a define body.

@@ -4,13 +4,11 @@ ghost use Rattle.std.specs.Prelude.{ℕ, List, ◌≡◌, ◌≤◌, length, map
 ghost use Rattle.definition.specs.Calls.{Filled, reading, looking_up};
 ghost use Rattle.reading.specs.Promise.{left_by};
 ghost use Rattle.table.specs.Fills.{Fills};
-ghost use Rattle.records.specs.Rubbish.{most};
 ghost use Rattle.records.specs.Stand.{passed as Stand·passed, ConvertsBy};
 ghost use Rattle.records.specs.Answers.{FillsBy, filled_numbers, reading_numbers, looked_numbers, read_behind, lookup_behind, paste_behind, answer_behind};
 
 use crate::number::{decode, number};
-use crate::rubbish;
-use crate::rubbish::room;
+use crate::rubbish::{BYTE, MOST, NUMBER, Rooms, room};
 use crate::stand::passed;
 use tables::Reading;
 use text::Counted;
@@ -74,17 +72,17 @@ fn left<'a>(
 }
 
 // Reads a source with tables of these lengths,
-fn read<'a>(a: usize, b: usize, c: usize, src: &[u8], s: &'a [u8]) -> Option<&'a [u8]>
-    requires a_le_most { a ≤ most }
-    requires b_le_most { b ≤ most }
-    requires c_le_most { c ≤ most }
-    ensures { option_copied result ≡ Stand·passed (reading_numbers (reading src.now a b c)) s.now }
+fn read<'a>(rooms: Rooms, src: &[u8], s: &'a [u8]) -> Option<&'a [u8]>
+    ensures { option_copied result ≡ Stand·passed (reading_numbers (reading src.now rooms.entries rooms.errors rooms.lines)) s.now }
 {
-    let mut entries = rubbish::numbers();
-    let mut errors = rubbish::numbers();
-    let mut lines = rubbish::numbers();
-    let got = shader_reader::shader_read(src, &mut entries[..a], &mut errors[..b], &mut lines[..c]);
-    left(got, &entries[..a], &errors[..b], &lines[..c], s)
+    let mut entries = [NUMBER; MOST];
+    let mut errors = [NUMBER; MOST];
+    let mut lines = [NUMBER; MOST];
+    let entries = &mut entries[..rooms.entries];
+    let errors = &mut errors[..rooms.errors];
+    let lines = &mut lines[..rooms.lines];
+    let got = shader_reader::shader_read(src, entries, errors, lines);
+    left(got, entries, errors, lines, s)
 }
 
 // of which the last two stand before the source.
@@ -93,7 +91,12 @@ fn read_input<'a>(n: u32, input: &[u8], s: &'a [u8]) -> Option<&'a [u8]>
 {
     let (errors, behind) = number(input)?;
     let (lines, src) = number(behind)?;
-    read(room(n), room(errors), room(lines), src, s)
+    let rooms = Rooms {
+        entries: room(n),
+        errors: room(errors),
+        lines: room(lines),
+    };
+    read(rooms, src, s)
 }
 
 // Looks an offset up in line starts,
@@ -108,7 +111,7 @@ fn looked<'a>(offset: u32, lines: &[u32], s: &'a [u8]) -> Option<&'a [u8]>
 fn lookup<'a>(offset: u32, input: &[u8], s: &'a [u8]) -> Option<&'a [u8]>
     ensures { option_copied result ≡ lookup_behind offset input.now s.now }
 {
-    let mut lines = rubbish::numbers();
+    let mut lines = [NUMBER; MOST];
     let n = decode(input, &mut lines);
     looked(offset, lines.get(..n)?, s)
 }
@@ -126,8 +129,8 @@ fn paste<'a>(lhs: u32, input: &[u8], s: &'a [u8]) -> Option<&'a [u8]>
 pub fn answered<'a>(call: Call, n: u32, input: &[u8], s: &'a [u8]) -> Option<&'a [u8]>
     ensures { option_copied result ≡ answer_behind call n input.now s.now }
 {
-    let mut numbers = rubbish::numbers();
-    let mut bytes = rubbish::bytes();
+    let mut numbers = [NUMBER; MOST];
+    let mut bytes = [BYTE; MOST];
     let table = &mut numbers[..room(n)];
     let output = &mut bytes[..room(n)];
     match call {
