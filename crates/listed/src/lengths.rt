@@ -87,13 +87,8 @@ fn alone<P: Print>(rt: &P, src: &[u8], rooms: Rooms) -> io::Result<()>
     let fewer_lines = Rooms::at_most(entries, errors, lines.saturating_sub(1));
     read(rt, "lines short", src, fewer_lines).1?;
     if errors != 0 {
-        read(
-            rt,
-            "errors short",
-            src,
-            Rooms::at_most(entries, errors - 1, lines),
-        )
-        .1?;
+        let fewer_errors = Rooms::at_most(entries, errors - 1, lines);
+        read(rt, "errors short", src, fewer_errors).1?;
     }
     Ok(())
 }
@@ -108,8 +103,8 @@ fn together<P: Print>(rt: &P, src: &[u8], rooms: Rooms) -> io::Result<()>
     read(rt, "all short", src, Rooms::at_most(entries, errors, lines)).1?;
     read(rt, "none", src, Rooms::at_most(0, 0, 0)).1?;
     if rooms.errors != 0 {
-        let rest_fewer = Rooms::at_most(rooms.entries, errors, lines);
-        read(rt, "errors and lines short", src, rest_fewer).1?;
+        let both = Rooms::at_most(rooms.entries, errors, lines);
+        read(rt, "errors and lines short", src, both).1?;
     }
     Ok(())
 }
@@ -142,7 +137,7 @@ pub fn bodies<P: Print>(rt: &P, src: &[u8]) -> io::Result<()>
     if got.refusal != 0 {
         return body(rt, "body none", src, 0).1;
     }
-    let a = MOST.min(got.count as usize * ENTRY);
-    body(rt, "body just enough", src, a).1?;
-    body(rt, "body short", src, a.saturating_sub(1)).1
+    let room = MOST.min(got.count as usize * ENTRY);
+    body(rt, "body just enough", src, room).1?;
+    body(rt, "body short", src, room.saturating_sub(1)).1
 }

@@ -35,7 +35,7 @@ fn rows<P: Print>(rt: &P, word: &str, t: &[u32], width: usize, n: u32) -> io::Re
     Ok(())
 }
 
-// Prints the first n entries, each behind the word for its form.
+// Prints the first n entries, each behind the word for its form. (One function with `rows` would be no plainer: only an entry's word stands in its row.)
 fn entry_rows<P: Print>(rt: &P, t: &[u32], n: u32) -> io::Result<()>
     ensures { Unit {0} }
 {

@@ -11,7 +11,7 @@ pub fn pair(s: &[u8]) -> Option<(u16, &[u8])>
     Some((u16::from_le_bytes(*bytes), rest))
 }
 
-// and of the first four.
+// and of the first four. (One function for both would be no plainer: `from_le_bytes` belongs to no trait.)
 pub fn number(s: &[u8]) -> Option<(u32, &[u8])>
     ensures { MatchOption result (length s.now < 4) (λ p. (4 ≤ length s.now) × (p.0 ≡ Numbers·number s.now 0) × (p.1.now ≡ drop 4 s.now)) }
 {

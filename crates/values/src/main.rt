@@ -68,9 +68,9 @@ fn show_file(rt: &HostRuntime, s: &[u8]) -> io::Result<()>
         return Ok(());
     };
     rt.write_all(text)?;
-    println!(rt; "")?;
+    rt.write_all(b"\n")?;
     rt.write_all(list)?;
-    println!(rt; "")?;
+    rt.write_all(b"\n")?;
     show_lines(rt, text, list, lines)
 }
 
