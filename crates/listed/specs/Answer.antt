@@ -1,14 +1,13 @@
 -- What is told of a reading whose tables are not handed on: its answer, and how many numbers are not 0.
-use Rattle.definition.specs.Text.{ℕ, zero, suc, List, [], eqb}
+use Rattle.definition.specs.Text.{ℕ, List, eqb, not}
 use Rattle.definition.specs.Calls.{Filled, Reading}
-use Rattle.std.specs.Prelude.{◌≡◌, ◌∷◌, if◌then◌else◌}
+use Rattle.std.specs.Prelude.{◌≡◌, count_by}
 use Rattle.tables.specs.declared.Reading as code
 use Rattle.text.specs.declared.Counted.{Counted}
 
--- The numbers of a table that are not 0.
-unfoldable pub nonzero : List ℕ → ℕ
-nonzero [] = 0
-nonzero (x ∷ t) = if eqb x 0 then nonzero t else suc (nonzero t)
+-- How many numbers of a table are not 0.
+abbrev pub nonzero : List ℕ → ℕ
+nonzero t = count_by (λ x. not (eqb x 0)) t
 
 -- The answer of a reading,
 pub record Answers (o : Reading) (r : code.Reading) : Type 0 where

@@ -3,27 +3,16 @@
 #![tactic(auto)]
 
 pub mod lengths;
-mod lent;
 pub mod print;
 
-ghost use Rattle.std.specs.Prelude.{length, IfOk};
+ghost use Rattle.std.specs.Prelude.{length};
 ghost use Rattle.reading.specs.Promise.{ReadsSource};
-ghost use Rattle.records.specs.Input.{IsPrefixLen};
 
-use std::io::Print;
-use std::rt::Files;
-use std::{fs, io};
-use tables::Reading;
+use std::io;
+use tables::{ENTRY, Reading};
 
 // The longest source that is listed.
-const LONGEST: usize = 512;
-
-// Reads a file into a buffer, and answers how many bytes it read.
-pub fn read_file<R: Files>(rt: &R, name: &str, buf: &mut [u8]) -> io::Result<usize>
-    ensures { IfOk result (λ n. IsPrefixLen n buf.new) }
-{
-    records::input::read_full(&mut fs::open(rt, name)?, buf)
-}
+pub const LONGEST: usize = 512;
 
 // Reads a source with these tables, and prints the reading: what it read, and whether it was printed.
 pub fn list<P: Print>(
@@ -46,10 +35,10 @@ pub fn listing<P: Print>(rt: &P, src: &[u8]) -> io::Result<()>
     ensures { Unit {0} }
 {
     if LONGEST < src.len() {
-        return print::word(rt, b"long\n");
+        return println!(rt; "long");
     }
-    let mut entries = lent::entries();
-    let mut errors = lent::errors();
-    let mut lines = lent::lines();
+    let mut entries = [0; (2 * LONGEST + 1) * ENTRY];
+    let mut errors = [0; LONGEST * print::ERROR];
+    let mut lines = [0; LONGEST + 1];
     list(rt, src, &mut entries, &mut errors, &mut lines).1
 }

@@ -1,30 +1,17 @@
 // Lists the files that the arguments name, as `listing` does, and reads each again with tables of all lengths that matter.
 #![tactic(auto)]
 
-ghost use Rattle.std.specs.Prelude.{IfOk};
-ghost use Rattle.records.specs.Input.{IsPrefixLen};
-
-use std::fs::File;
-use std::{env, io};
-
-// Reads a file into a buffer, and answers how many bytes it read.
-fn read_file(rt: &HostRuntime, name: &str, buf: &mut [u8]) -> io::Result<usize>
-    ensures { IfOk result (λ n. IsPrefixLen n buf.new) }
-{
-    records::input::read_full(&mut File::open(rt, name)?, buf)
-}
+use std::{env, fs, io};
 
 // Shows a source under its name.
 fn show(rt: &HostRuntime, name: &str) -> io::Result<()>
     ensures { Unit {0} }
 {
-    let mut buf = records::input::buffer();
-    let n = read_file(rt, name, &mut buf)?;
-    listed::print::word(rt, name.as_bytes())?;
-    listed::print::end(rt)?;
-    listed::listing(rt, &buf[..n])?;
-    listed::lengths::readings(rt, &buf[..n])?;
-    listed::lengths::bodies(rt, &buf[..n])
+    let src = fs::read(rt, name)?;
+    println!(rt; "{name}")?;
+    listed::listing(rt, &src)?;
+    listed::lengths::readings(rt, &src)?;
+    listed::lengths::bodies(rt, &src)
 }
 
 fn main(rt: HostRuntime) -> io::Result<()> {

@@ -1,39 +1,34 @@
--- How the records of a file compare: the first that does not agree.
-use Rattle.definition.specs.Text.{ℕ, zero, suc, Bool, true, false, List, length, leb, ltb, take}
-use Rattle.std.specs.Prelude.{drop, ◌+◌, ◌-◌, ◌&&◌, if◌then◌else◌}
+-- How the records of a file compare: how many there are, or the first that does not agree.
+use Rattle.definition.specs.Text.{ℕ, zero, suc, true, false, List, length, ltb, take}
+use Rattle.std.specs.Prelude.{drop, ◌+◌, if◌then◌else◌, Option, Some, None, Result, Ok, Err}
 use Rattle.records.specs.Numbers.{pair, number}
-use Rattle.records.specs.Stand.{far}
 use Rattle.records.specs.Answers.{answer_behind}
-use Rattle.records.specs.declared.Comparison.{Comparison}
-use Rattle.records.specs.declared.Comparison.TheVariants.{Same, Differs}
+use Rattle.records.specs.declared.agree.Call.{Call}
+use Rattle.records.specs.declared.Differs.{Differs}
 
--- A record at a place: how many bytes its input has (two bytes), a number (four), the input, and then the numbers of the answer.
-abbrev pub answer_at : List ℕ → ℕ → ℕ
-answer_at s at = at + 6 + pair s at
+-- A record: how many bytes its input has (two bytes), a number (four), the input, and then the numbers of the answer, here of the first.
+abbrev pub answer_at : List ℕ → ℕ
+answer_at s = 6 + pair s 0
 
-abbrev pub input_at : List ℕ → ℕ → List ℕ
-input_at s at = take (answer_at s at - (at + 6)) (drop (at + 6) s)
+abbrev pub input_of : List ℕ → List ℕ
+input_of s = take (pair s 0) (drop 6 s)
 
--- The place behind it, where the next one begins; far: it is cut off, or other numbers answer the call.
-unfoldable pub behind : ℕ → List ℕ → ℕ → ℕ
-behind call s at = if ltb (length s) (answer_at s at) then far else answer_behind call (number s (at + 2)) (input_at s at) s (answer_at s at)
+-- What is behind it, where the next one begins; none: it is cut off, or other numbers answer the call.
+unfoldable pub behind : Call → List ℕ → Option (List ℕ)
+behind call s = if ltb (length s) (answer_at s) then None else answer_behind call (number s 2) (input_of s) (drop (answer_at s) s)
 
--- Whether a record agrees: the next one begins further on, within the file.
-abbrev pub agrees : ℕ → List ℕ → ℕ → Bool
-agrees call s at = ltb at (behind call s at) && leb (behind call s at) (length s)
-
--- The records from a place on, at most so many, where some were read before.
-unfoldable pub compared_from : ℕ → ℕ → ℕ → List ℕ → ℕ → Comparison
-compared_from zero records call s at = Same records
-compared_from (suc more) records call s at =
-    elim (ltb at (length s)) [
-      | true ↦ elim (agrees call s at) [
-        | true ↦ compared_from more (suc records) call s (behind call s at)
-        | false ↦ Differs (suc records)
+-- The records of a file, at most so many, where some were read before.
+unfoldable pub compared_from : ℕ → ℕ → Call → List ℕ → Result ℕ Differs
+compared_from zero records call s = Ok records
+compared_from (suc more) records call s =
+    elim (ltb 0 (length s)) [
+      | true ↦ elim (behind call s) [
+        | Some rest ↦ compared_from more (suc records) call rest
+        | None ↦ Err (record { number = suc records })
       ]
-      | false ↦ Same records
+      | false ↦ Ok records
     ]
 
 -- All of a file.
-abbrev pub compared : ℕ → List ℕ → Comparison
-compared call s = compared_from (length s) 0 call s 0
+abbrev pub compared : Call → List ℕ → Result ℕ Differs
+compared call s = compared_from (length s) 0 call s

@@ -1,6 +1,5 @@
 pub mod Answers
 pub mod Compared
-pub mod Input
 pub mod Numbers
 pub mod Rubbish
 pub mod Stand

@@ -1,157 +1,145 @@
-// Runs a recorded call, and compares its answer with the recorded one: each function answers the place behind the numbers of the answer,
-// or far where others stand.
-ghost use Rattle.std.specs.Prelude.{◌≡◌, ◌≤◌};
-ghost use Rattle.definition.specs.Calls.{reading, reading_body, listing_tokens, building_lines, unescaping, looking_up};
+// Runs a recorded call, and compares its answer with the recorded one: each function answers what is behind the numbers of the answer;
+// none, where others stand.
+ghost use Rattle.std.specs.Prelude.{ℕ, List, ◌≡◌, ◌≤◌, length, map, option_copied};
+ghost use Rattle.definition.specs.Calls.{Filled, reading, looking_up};
 ghost use Rattle.reading.specs.Promise.{left_by};
-ghost use Rattle.records.specs.Rubbish.{most};
-ghost use Rattle.records.specs.Stand.{passed as Stand·passed};
-ghost use Rattle.records.specs.Answers.{reading_numbers, looked_numbers, table_behind, read_behind, lookup_behind, paste_behind, answer_behind};
+ghost use Rattle.table.specs.Fills.{Fills};
+ghost use Rattle.records.specs.Stand.{passed as Stand·passed, ConvertsBy};
+ghost use Rattle.records.specs.Answers.{FillsBy, filled_numbers, reading_numbers, looked_numbers, read_behind, lookup_behind, paste_behind, answer_behind};
 
-use crate::rubbish::room;
-use crate::stand::{FAR, both, passed, passed_bytes};
-use crate::{number, rubbish};
+use crate::number::{decode, number};
+use crate::rubbish::{BYTE, MOST, NUMBER, Rooms, room};
+use crate::stand::passed;
 use tables::Reading;
+use text::Counted;
 
-// The calls by their numbers.
-pub const TOKENS: u8 = 1;
+// The calls that are recorded.
+#[derive(Debug, Clone, Copy, PartialEq, Eq)]
+pub enum Call {
+    Tokens,
+    Lines,
+    Unescape,
+    Lookup,
+    Paste,
+    Read,
+    Body,
+}
 
-pub const LINES: u8 = 2;
+impl Call {
+    // The name of the call's file.
+    pub fn name(self) -> &'static str {
+        match self {
+            Call::Tokens => "tokens",
+            Call::Lines => "lines",
+            Call::Unescape => "unescape",
+            Call::Lookup => "lookup",
+            Call::Paste => "paste",
+            Call::Read => "read",
+            Call::Body => "body",
+        }
+    }
+}
 
-pub const UNESCAPE: u8 = 3;
-
-pub const LOOKUP: u8 = 4;
-
-pub const PASTE: u8 = 5;
-
-pub const READ: u8 = 6;
-
-pub const BODY: u8 = 7;
-
-// The bytes of two lengths of tables.
-const LENGTHS: usize = 8;
+// Fills a table by a call, and compares the outcome.
+fn filled<'a, T: Copy + Into<u32>, F: FnOnce(&[u8], &mut [T]) -> Counted>(
+    call: F,
+    table: &mut [T],
+    src: &[u8],
+    s: &'a [u8],
+) -> Option<&'a [u8]>
+    requires { F.IsAlwaysCallable call }
+    ensures { (outcome : List ℕ → ℕ → Filled) (value : T → ℕ) → ConvertsBy T.converts value → FillsBy (F.post call) outcome value → option_copied result ≡ Stand·passed (filled_numbers (outcome src.now (length table.old))) s.now }
+{
+    let got = call(src, table);
+    let rest = passed(&[got.refusal, got.count], s)?;
+    passed(table, rest)
+}
 
 // The answer of a reading, with the tables as it left them.
-fn left(got: Reading, entries: &[u32], errors: &[u32], lines: &[u32], s: &[u8], at: usize) -> usize
-    ensures { result ≡ Stand·passed (reading_numbers (left_by got entries.now errors.now lines.now)) s.now at }
+fn left<'a>(
+    got: Reading,
+    entries: &[u32],
+    errors: &[u32],
+    lines: &[u32],
+    s: &'a [u8],
+) -> Option<&'a [u8]>
+    ensures { option_copied result ≡ Stand·passed (reading_numbers (left_by got entries.now errors.now lines.now)) s.now }
 {
-    let counted = passed(&[got.refusal, got.entries, got.errors, got.lines], s, at);
-    passed(lines, s, passed(errors, s, passed(entries, s, counted)))
+    let answer = passed(&[got.refusal, got.entries, got.errors, got.lines], s)?;
+    let behind_entries = passed(entries, answer)?;
+    let behind_errors = passed(errors, behind_entries)?;
+    passed(lines, behind_errors)
 }
 
 // Reads a source with tables of these lengths,
-fn read(a: usize, b: usize, c: usize, src: &[u8], s: &[u8], at: usize) -> usize
-    requires a_le_most { a ≤ most }
-    requires b_le_most { b ≤ most }
-    requires c_le_most { c ≤ most }
-    ensures { result ≡ Stand·passed (reading_numbers (reading src.now a b c)) s.now at }
+fn read<'a>(rooms: Rooms, src: &[u8], s: &'a [u8]) -> Option<&'a [u8]>
+    ensures { option_copied result ≡ Stand·passed (reading_numbers (reading src.now rooms.entries rooms.errors rooms.lines)) s.now }
 {
-    let mut entries = rubbish::numbers();
-    let mut errors = rubbish::numbers();
-    let mut lines = rubbish::numbers();
-    let got = shader_reader::shader_read(src, &mut entries[..a], &mut errors[..b], &mut lines[..c]);
-    left(got, &entries[..a], &errors[..b], &lines[..c], s, at)
+    let mut entries = [NUMBER; MOST];
+    let mut errors = [NUMBER; MOST];
+    let mut lines = [NUMBER; MOST];
+    let entries = &mut entries[..rooms.entries];
+    let errors = &mut errors[..rooms.errors];
+    let lines = &mut lines[..rooms.lines];
+    let got = shader_reader::shader_read(src, entries, errors, lines);
+    left(got, entries, errors, lines, s)
 }
 
 // of which the last two stand before the source.
-fn read_input(n: u32, input: &[u8], s: &[u8], at: usize) -> usize
-    ensures { result ≡ read_behind n input.now s.now at }
+fn read_input<'a>(n: u32, input: &[u8], s: &'a [u8]) -> Option<&'a [u8]>
+    ensures { option_copied result ≡ read_behind n input.now s.now }
 {
-    if input.len() < LENGTHS {
-        return FAR;
-    }
-    read(
-        room(n),
-        room(number::number(input, 0)),
-        room(number::number(input, 4)),
-        &input[LENGTHS..],
-        s,
-        at,
-    )
-}
-
-// Reads a define body.
-fn body(room: usize, src: &[u8], s: &[u8], at: usize) -> usize
-    requires { room ≤ most }
-    ensures { result ≡ table_behind reading_body room src.now s.now at }
-{
-    let mut table = rubbish::numbers();
-    let got = shader_reader::shader_define_body(src, &mut table[..room]);
-    passed(&table[..room], s, both(got.refusal, got.count, s, at))
-}
-
-// Lists the tokens of a source.
-fn tokens(room: usize, src: &[u8], s: &[u8], at: usize) -> usize
-    requires { room ≤ most }
-    ensures { result ≡ table_behind listing_tokens room src.now s.now at }
-{
-    let mut table = rubbish::numbers();
-    let got = shader_reader::shader_tokens(src, &mut table[..room]);
-    passed(&table[..room], s, both(got.refusal, got.count, s, at))
-}
-
-// Builds its line table.
-fn lines(room: usize, src: &[u8], s: &[u8], at: usize) -> usize
-    requires { room ≤ most }
-    ensures { result ≡ table_behind building_lines room src.now s.now at }
-{
-    let mut table = rubbish::numbers();
-    let got = shader_reader::shader_line_table(src, &mut table[..room]);
-    passed(&table[..room], s, both(got.refusal, got.count, s, at))
-}
-
-// Unescapes a text.
-fn unescape(room: usize, src: &[u8], s: &[u8], at: usize) -> usize
-    requires { room ≤ most }
-    ensures { result ≡ table_behind unescaping room src.now s.now at }
-{
-    let mut output = rubbish::bytes();
-    let got = shader_reader::shader_unescape(src, &mut output[..room]);
-    passed_bytes(&output[..room], s, both(got.refusal, got.count, s, at))
+    let (errors, behind) = number(input)?;
+    let (lines, src) = number(behind)?;
+    let rooms = Rooms {
+        entries: room(n),
+        errors: room(errors),
+        lines: room(lines),
+    };
+    read(rooms, src, s)
 }
 
 // Looks an offset up in line starts,
-fn looked(offset: u32, lines: &[u32], s: &[u8], at: usize) -> usize
-    ensures { result ≡ Stand·passed (looked_numbers (looking_up lines.now offset)) s.now at }
+fn looked<'a>(offset: u32, lines: &[u32], s: &'a [u8]) -> Option<&'a [u8]>
+    ensures { option_copied result ≡ Stand·passed (looked_numbers (looking_up lines.now offset)) s.now }
 {
     let got = shader_reader::shader_lookup(lines, offset);
-    passed(&[got.refusal, got.line, got.column], s, at)
+    passed(&[got.refusal, got.line, got.column], s)
 }
 
 // which are the numbers of the input.
-fn lookup(offset: u32, input: &[u8], s: &[u8], at: usize) -> usize
-    ensures { result ≡ lookup_behind offset input.now s.now at }
+fn lookup<'a>(offset: u32, input: &[u8], s: &'a [u8]) -> Option<&'a [u8]>
+    ensures { option_copied result ≡ lookup_behind offset input.now s.now }
 {
-    let mut lines = rubbish::numbers();
-    let n = number::decode(input, &mut lines);
-    if rubbish::MOST < n {
-        return FAR;
-    }
-    looked(offset, &lines[..n], s, at)
+    let mut lines = [NUMBER; MOST];
+    let n = decode(input, &mut lines);
+    looked(offset, lines.get(..n)?, s)
 }
 
 // Pastes a kind with that of the input.
-fn paste(lhs: u32, input: &[u8], s: &[u8], at: usize) -> usize
-    ensures { result ≡ paste_behind lhs input.now s.now at }
+fn paste<'a>(lhs: u32, input: &[u8], s: &'a [u8]) -> Option<&'a [u8]>
+    ensures { option_copied result ≡ paste_behind lhs input.now s.now }
 {
-    if input.len() < 4 {
-        return FAR;
-    }
-    let got = shader_reader::shader_paste(lhs, number::number(input, 0));
-    both(got.refusal, got.kind, s, at)
+    let (rhs, _) = number(input)?;
+    let got = shader_reader::shader_paste(lhs, rhs);
+    passed(&[got.refusal, got.kind], s)
 }
 
 // A call on its number and its input.
-pub fn answered(call: u8, n: u32, input: &[u8], s: &[u8], at: usize) -> usize
-    ensures { result ≡ answer_behind call n input.now s.now at }
+pub fn answered<'a>(call: Call, n: u32, input: &[u8], s: &'a [u8]) -> Option<&'a [u8]>
+    ensures { option_copied result ≡ answer_behind call n input.now s.now }
 {
+    let mut numbers = [NUMBER; MOST];
+    let mut bytes = [BYTE; MOST];
+    let table = &mut numbers[..room(n)];
+    let output = &mut bytes[..room(n)];
     match call {
-        TOKENS => tokens(room(n), input, s, at),
-        LINES => lines(room(n), input, s, at),
-        UNESCAPE => unescape(room(n), input, s, at),
-        LOOKUP => lookup(n, input, s, at),
-        PASTE => paste(n, input, s, at),
-        READ => read_input(n, input, s, at),
-        BODY => body(room(n), input, s, at),
-        _ => FAR,
+        Call::Tokens => filled(shader_reader::shader_tokens, table, input, s),
+        Call::Lines => filled(shader_reader::shader_line_table, table, input, s),
+        Call::Unescape => filled(shader_reader::shader_unescape, output, input, s),
+        Call::Lookup => lookup(n, input, s),
+        Call::Paste => paste(n, input, s),
+        Call::Read => read_input(n, input, s),
+        Call::Body => filled(shader_reader::shader_define_body, table, input, s),
     }
 }

@@ -2,62 +2,50 @@
 #![tactic(auto)]
 
 pub mod agree;
-pub mod input;
 mod number;
 pub mod rubbish;
 mod stand;
 
-ghost use Rattle.std.specs.Prelude.{◌≡◌, ◌<◌, length};
+ghost use Rattle.std.specs.Prelude.{◌≡◌, ◌<◌, length, IfSome, option_copied};
 ghost use Rattle.records.specs.Compared.{behind as Compared·behind, compared};
 
+use agree::Call;
 use number::{number, pair};
-use stand::FAR;
+use std::fmt;
 
-// How the records of a file compare.
-#[derive(Clone, Copy)]
-pub enum Comparison {
-    // Each agrees, and there are so many.
-    Same { records: usize },
-    // The record of this number, from 1, is the first that does not.
-    Differs { number: usize },
+// The record of this number, from 1, is the first whose answer is not the call's.
+#[derive(Debug, Clone, Copy, PartialEq, Eq)]
+pub struct Differs {
+    pub number: usize,
 }
 
-// The bytes of a record in front of its input.
-const FRAME: usize = 6;
+impl fmt::Display for Differs {
+    fn fmt<W: fmt::Write>(&self, f: &mut fmt::Formatter<W>) -> fmt::Result {
+        let number = self.number;
+        write!(f, "first difference,{number}")
+    }
+}
 
-// The place behind a record, or far where its answer is not the call's.
-fn behind(call: u8, s: &[u8], at: usize) -> usize
-    requires { at < length s.now }
-    ensures { result ≡ Compared·behind call s.now at }
+// What is behind the first record; none, where its answer is not the call's.
+fn behind(call: Call, s: &[u8]) -> Option<&[u8]>
+    ensures value { option_copied result ≡ Compared·behind call s.now }
+    ensures shorter { IfSome result (λ rest. length rest.now < length s.now) }
 {
-    if s.len() - at < FRAME {
-        return FAR;
-    }
-    let size = pair(s, at) as usize;
-    if s.len() - at < FRAME + size {
-        return FAR;
-    }
-    let input = at + FRAME;
-    let answer = input + size;
-    agree::answered(call, number(s, at + 2), &s[input..answer], s, answer)
+    let (size, framed) = pair(s)?;
+    let (n, rest) = number(framed)?;
+    let (input, answer) = rest.split_at_checked(usize::from(size))?;
+    agree::answered(call, n, input, answer)
 }
 
-// Compares the records of a call.
-pub fn compare(call: u8, s: &[u8]) -> Comparison
+// Compares the records of a call, and counts them.
+pub fn compare(call: Call, s: &[u8]) -> Result<usize, Differs>
     ensures { result ≡ compared call s.now }
 {
     let mut records: usize = 0;
-    let mut at = 0;
-    while at < s.len() {
-        let next = behind(call, s, at);
+    let mut rest = s;
+    while !rest.is_empty() {
         records += 1;
-        if next <= at {
-            return Comparison::Differs { number: records };
-        }
-        if s.len() < next {
-            return Comparison::Differs { number: records };
-        }
-        at = next;
+        rest = behind(call, rest).ok_or(Differs { number: records })?;
     }
-    Comparison::Same { records }
+    Ok(records)
 }

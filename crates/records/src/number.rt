@@ -1,31 +1,22 @@
 // Little-endian numbers in a row of bytes.
-ghost use Rattle.std.specs.Prelude.{◌≡◌, ◌+◌, ◌≤◌, ◌<◌, length, get_or};
+ghost use Rattle.std.specs.Prelude.{◌≡◌, ◌≤◌, ◌<◌, length, drop, MatchOption};
 ghost use Rattle.table.specs.Fills.{Written};
 ghost use Rattle.records.specs.Numbers.{pair as Numbers·pair, number as Numbers·number, numbers};
 
-// The byte at a place as a number.
-pub fn byte(s: &[u8], at: usize) -> u32
-    requires { at < length s.now }
-    ensures value { result ≡ get_or s.now at 0 }
-    ensures upper_bound { result < 256 }
+// The number of the first two bytes, and what is behind them,
+pub fn pair(s: &[u8]) -> Option<(u16, &[u8])>
+    ensures { MatchOption result (length s.now < 2) (λ p. (2 ≤ length s.now) × (p.0 ≡ Numbers·pair s.now 0) × (p.1.now ≡ drop 2 s.now)) }
 {
-    s[at] as u32
+    let (bytes, rest) = s.split_first_chunk()?;
+    Some((u16::from_le_bytes(*bytes), rest))
 }
 
-// Two bytes at a place as a number,
-pub fn pair(s: &[u8], at: usize) -> u32
-    requires { at + 2 ≤ length s.now }
-    ensures { result ≡ Numbers·pair s.now at }
+// and of the first four. (One function for both would be no plainer: `from_le_bytes` belongs to no trait.)
+pub fn number(s: &[u8]) -> Option<(u32, &[u8])>
+    ensures { MatchOption result (length s.now < 4) (λ p. (4 ≤ length s.now) × (p.0 ≡ Numbers·number s.now 0) × (p.1.now ≡ drop 4 s.now)) }
 {
-    byte(s, at) + 256 * byte(s, at + 1)
-}
-
-// and four.
-pub fn number(s: &[u8], at: usize) -> u32
-    requires { at + 4 ≤ length s.now }
-    ensures { result ≡ Numbers·number s.now at }
-{
-    byte(s, at) + 256 * byte(s, at + 1) + 65_536 * byte(s, at + 2) + 16_777_216 * byte(s, at + 3)
+    let (bytes, rest) = s.split_first_chunk()?;
+    Some((u32::from_le_bytes(*bytes), rest))
 }
 
 // Writes the numbers of these bytes into a table, as far as it goes, and counts them all.
@@ -33,11 +24,11 @@ pub fn decode(s: &[u8], t: &mut [u32]) -> usize
     ensures { Written (numbers s.now) t.old result t.new }
 {
     let mut n: usize = 0;
-    let mut at = 0;
-    while 4 <= s.len() - at {
-        table::put(t, n, number(s, at));
+    let mut rest = s;
+    while let Some((x, behind)) = number(rest) {
+        table::put(t, n, x);
         n += 1;
-        at += 4;
+        rest = behind;
     }
     n
 }

@@ -1,93 +1,42 @@
-// Whether numbers stand in a file, one behind another. Each function answers the place behind them; far, if they do not.
-ghost use Rattle.std.specs.Prelude.{◌≡◌, ◌+◌, ◌≤◌, ◌<◌, length};
-ghost use Rattle.records.specs.Stand.{width as Stand·width, value as Stand·value, stands as Stand·stands, passed as Stand·passed};
+// Whether numbers stand in a file, one behind another. Each function answers what is behind them; none, if they do not.
+ghost use Rattle.std.specs.Prelude.{ℕ, ◌≡◌, ◌≤◌, ◌<◌, length, drop, map, MatchOption, option_copied};
+ghost use Rattle.records.specs.Stand.{width, value, stands as Stand·stands, passed as Stand·passed, ConvertsBy};
 
-use crate::number::{byte, number, pair};
+use crate::number::{number, pair};
 
-// The place behind a number that is not there.
-pub const FAR: usize = usize::MAX;
+// The first byte of a number that has two bytes more; the one above has four, and those below are numbers.
+const TWO_MORE: u8 = 254;
 
-// The first byte of a number that has two bytes more; the one above has four.
-const TWO_MORE: u32 = 254;
-
-// How many bytes the number at a place has,
-fn width(s: &[u8], at: usize) -> usize
-    requires { at < length s.now }
-    ensures value { result ≡ Stand·width s.now at }
-    ensures upper_bound { result ≤ 5 }
+// The first number, and what is behind it.
+fn first(s: &[u8]) -> Option<(u32, &[u8])>
+    ensures { MatchOption result (length s.now < width s.now) (λ p. (width s.now ≤ length s.now) × (p.0 ≡ value s.now) × (p.1.now ≡ drop (width s.now) s.now)) }
 {
-    let first = byte(s, at);
-    if first < TWO_MORE {
-        return 1;
+    let (byte, rest) = s.split_first()?;
+    match *byte {
+        TWO_MORE => {
+            let (x, rest) = pair(rest)?;
+            Some((u32::from(x), rest))
+        }
+        x if x < TWO_MORE => Some((u32::from(x), rest)),
+        _ => number(rest),
     }
-    if first == TWO_MORE {
-        return 3;
-    }
-    5
-}
-
-// and the number.
-fn value(s: &[u8], at: usize) -> u32
-    requires at_in_bounds { at < length s.now }
-    requires at_in_bounds_2 { at + Stand·width s.now at ≤ length s.now }
-    ensures { result ≡ Stand·value s.now at }
-{
-    let first = byte(s, at);
-    if first < TWO_MORE {
-        return first;
-    }
-    if first == TWO_MORE {
-        return pair(s, at + 1);
-    }
-    number(s, at + 1)
 }
 
 // One number,
-fn stands(x: u32, s: &[u8], at: usize) -> usize
-    ensures { result ≡ Stand·stands x s.now at }
+fn stands(x: u32, s: &[u8]) -> Option<&[u8]>
+    ensures { option_copied result ≡ Stand·stands x s.now }
 {
-    if s.len() <= at {
-        return FAR;
-    }
-    let bytes = width(s, at);
-    if s.len() - at < bytes {
-        return FAR;
-    }
-    if value(s, at) != x {
-        return FAR;
-    }
-    at + bytes
+    let (value, rest) = first(s)?;
+    (value == x).then_some(rest)
 }
 
-// two,
-pub fn both(x: u32, y: u32, s: &[u8], at: usize) -> usize
-    ensures { result ≡ Stand·stands y s.now (Stand·stands x s.now at) }
+// and those of a table or an output.
+pub fn passed<'a, T: Copy + Into<u32>>(t: &[T], s: &'a [u8]) -> Option<&'a [u8]>
+    ensures { (value : T → ℕ) → ConvertsBy T.converts value → option_copied result ≡ Stand·passed (map value t.now) s.now }
 {
-    stands(y, s, stands(x, s, at))
-}
-
-// those of a table,
-pub fn passed(t: &[u32], s: &[u8], at: usize) -> usize
-    ensures { result ≡ Stand·passed t.now s.now at }
-{
-    let mut place = at;
-    let mut i = 0;
-    while i < t.len() {
-        place = stands(t[i], s, place);
-        i += 1;
+    let mut rest = s;
+    for x in t {
+        rest = stands((*x).into(), rest)?;
     }
-    place
-}
-
-// or those of an output.
-pub fn passed_bytes(t: &[u8], s: &[u8], at: usize) -> usize
-    ensures { result ≡ Stand·passed t.now s.now at }
-{
-    let mut place = at;
-    let mut i = 0;
-    while i < t.len() {
-        place = stands(byte(t, i), s, place);
-        i += 1;
-    }
-    place
+    Some(rest)
 }

@@ -4,94 +4,80 @@
 
 mod lines;
 
-use listed::print;
-use records::{input, rubbish};
-use std::io;
+use lines::Bytes;
+use std::{fs, io};
+
+// The files, in this order.
+const FILES: [&str; 21] = [
+    "literals",
+    "trivia",
+    "tokens",
+    "shape",
+    "names",
+    "defined",
+    "operators",
+    "precedence",
+    "range",
+    "first",
+    "levels",
+    "bytes",
+    "none",
+    "marks",
+    "equal",
+    "unfinished",
+    "outside",
+    "empty",
+    "split",
+    "others",
+    "broken",
+];
 
 // Shows an expression: its line, and the refusal and the value.
 fn show(rt: &HostRuntime, line: &[u8], list: &[u32], text: &[u8]) -> io::Result<()>
     ensures { Unit {0} }
 {
-    let mut expression = input::buffer();
-    let n = lines::bytes(line, &mut expression);
-    let got = condition::value(&expression[..n], list, text);
-    print::word(rt, line)?;
-    print::fields(rt, &[got.refusal])?;
-    print::signed(rt, got.value)?;
-    print::end(rt)
+    let expression: Vec<u8> = Bytes(line).collect(rt.alloc())?;
+    let got = condition::value(&expression, list, text);
+    rt.write_all(line)?;
+    println!(rt; ",{},{}", got.refusal, got.value)
 }
 
-// Shows the expressions of these lines.
-fn show_lines(rt: &HostRuntime, s: &[u8], list: &[u32], text: &[u8]) -> io::Result<()>
+// Shows the expressions of these lines, behind the lines of a text and of a list.
+fn show_lines(rt: &HostRuntime, text: &[u8], list: &[u8], lines: &[u8]) -> io::Result<()>
     ensures { Unit {0} }
 {
-    let mut at: usize = 0;
-    while at < s.len() {
-        let end = lines::end(s, at);
-        show(rt, &s[at..end], list, text)?;
-        at = end + 1;
+    let named: Vec<u8> = Bytes(text).collect(rt.alloc())?;
+    let numbers: Vec<u32> = list
+        .split(|b| *b == b' ')
+        .skip(1)
+        .map(lines::number)
+        .collect(rt.alloc())?;
+    for line in lines.split_inclusive(|b| *b == b'\n') {
+        let line = line.strip_suffix(b"\n").unwrap_or(line);
+        show(rt, line, &numbers, &named)?;
     }
     Ok(())
 }
 
-// Shows those behind the lines of a text and of a list.
-fn show_listed(rt: &HostRuntime, text: &[u8], list: &[u8], rest: &[u8]) -> io::Result<()>
-    ensures { Unit {0} }
-{
-    let mut named = input::buffer();
-    let m = lines::bytes(text, &mut named);
-    let mut numbers = rubbish::numbers();
-    let n = lines::numbers(list, &mut numbers);
-    show_lines(rt, rest, &numbers[..n], &named[..m])
-}
-
-// Shows those of a file that begins with these two lines, which are printed as they stand.
+// Shows those of a file that begins with a text and a list, which are printed as they stand.
 fn show_file(rt: &HostRuntime, s: &[u8]) -> io::Result<()>
     ensures { Unit {0} }
 {
-    let a = lines::end(s, 0);
-    if s.len() <= a {
+    let mut parts = s.splitn(3, |b| *b == b'\n');
+    let (Some(text), Some(list), Some(lines)) = (parts.next(), parts.next(), parts.next()) else {
         return Ok(());
-    }
-    let b = lines::end(s, a + 1);
-    if s.len() <= b {
-        return Ok(());
-    }
-    print::word(rt, &s[..b + 1])?;
-    show_listed(rt, &s[..a], &s[a + 1..b], &s[b + 1..])
-}
-
-// Shows a file under its name.
-fn show_named(rt: &HostRuntime, name: &str) -> io::Result<()>
-    ensures { Unit {0} }
-{
-    let mut buf = input::large_buffer();
-    let n = listed::read_file(rt, name, &mut buf)?;
-    print::word(rt, name.as_bytes())?;
-    print::end(rt)?;
-    show_file(rt, &buf[..n])
+    };
+    rt.write_all(text)?;
+    rt.write_all(b"\n")?;
+    rt.write_all(list)?;
+    rt.write_all(b"\n")?;
+    show_lines(rt, text, list, lines)
 }
 
 fn main(rt: HostRuntime) -> io::Result<()> {
-    show_named(&rt, "literals")?;
-    show_named(&rt, "trivia")?;
-    show_named(&rt, "tokens")?;
-    show_named(&rt, "shape")?;
-    show_named(&rt, "names")?;
-    show_named(&rt, "defined")?;
-    show_named(&rt, "operators")?;
-    show_named(&rt, "precedence")?;
-    show_named(&rt, "range")?;
-    show_named(&rt, "first")?;
-    show_named(&rt, "levels")?;
-    show_named(&rt, "bytes")?;
-    show_named(&rt, "none")?;
-    show_named(&rt, "marks")?;
-    show_named(&rt, "equal")?;
-    show_named(&rt, "unfinished")?;
-    show_named(&rt, "outside")?;
-    show_named(&rt, "empty")?;
-    show_named(&rt, "split")?;
-    show_named(&rt, "others")?;
-    show_named(&rt, "broken")
+    for name in FILES {
+        println!(rt; "{name}")?;
+        show_file(&rt, &fs::read(&rt, name)?)?;
+    }
+    Ok(())
 }
