@@ -1,4 +1,5 @@
 -- The outcomes of a reading of a define body that was written as far as its table goes.
+use Rattle.std.specs.Prelude.{⊤, Result, Ok, Err}
 use Prim.Native.Nat.{ℕ, ◌*◌, ◌/◌, ◌≤◌, ◌<◌}
 use mathlib.Core.Path.{◌≡◌, refl, ap, sym, ◌∙◌}
 use mathlib.Core.Bool.{Bool, true, false}
@@ -13,19 +14,24 @@ use Rattle.theorems.proofs.Refusals.{length_entries}
 use Rattle.text.specs.declared.Counted.{Counted}
 use Rattle.table.specs.Row.{far, page, Laid}
 use Rattle.table.proofs.Tables.{zeros}
+use Rattle.text.specs.Refusal.{number, code}
+use Rattle.text.specs.declared.refusal.Refusal.{Refusal as Code}
 use Rattle.text.proofs.Refusals.{source_length}
 use Rattle.rows.specs.declared.BodyRow.{BodyRow}
 use Rattle.reading.specs.Promise.{body_checks, ReadsDefineBody}
-use Rattle.reading.specs.Parsed.{ParsedBody}
+use Rattle.reading.specs.Parsed.{ParsedBody, body_due, AcceptedBody}
 use Rattle.tables.specs.Decided.{Countable, body_ended_checks, BodyRefused, BodyFinished}
 use Rattle.reading.proofs.Promises.{body_refused_by, body_accepted_by, body_refused_source, body_refused_concats, body_refused_entries, body_not_refused}
 use Rattle.tables.proofs.Ending.{body_over, body_short, body_well}
+use Rattle.reading.proofs.Codes.{above}
 use Rattle.reading.proofs.Fitting.{laid_short, laid_fits, laid_end, laid_cleared}
 use Rattle.theorems.proofs.Weights.{few_body_entries}
 
 -- The text is refused,
-pub body_refused : (src : List ℕ) (a n : ℕ) (r : Counted) (t : List ℕ) → n ≡ refusal (source_checks src) → (n ≡ 0 → ⊥) → BodyRefused n a r t → ReadsDefineBody src a r t
-body_refused src a n r t q d f = body_refused_by src a n r t d (body_refused_source src a n q d) f.answer f.entry_table
+pub body_first_due : (src : List ℕ) (a : ℕ) (o : Result ⊤ Code) (y : Code) → code o ≡ refusal (source_checks src) → o ≡ Err y → number y ≡ body_due src a
+body_first_due src a o y e q =
+    let n : number y ≡ refusal (source_checks src) = sym (ap code q) ∙ e in
+    sym (body_refused_source src a (number y) n (above y))
 
 -- or not.
 module _ (src t : List ℕ) (r : ℕ) (q : r ≡ refusal (source_checks src)) (z : r ≡ 0) (t₁ : List ℕ) (x : BodyRow) (k : ParsedBody src t t₁ x)
@@ -74,25 +80,26 @@ module _ (src t : List ℕ) (r : ℕ) (q : r ≡ refusal (source_checks src)) (z
             (body_short x.over end (length t₁) o (omega arith))
       ]
 
-  module _ (n : ℕ) (i : n ≡ refusal (body_ended_checks x.over x.pen.n (length t₁))) where
-    -- Its tree is refused,
-    pub body_unfit : (a : Counted) (t₂ : List ℕ) → (n ≡ 0 → ⊥) → BodyRefused n (length t₁) a t₂ → ReadsDefineBody src (length t) a t₂
-    body_unfit a t₂ d f = body_refused_by src _ n a t₂ d (decided.same ∙ sym i) f.answer (f.entry_table ∙ ap zeros bt)
+  -- By what the test of the table says the body is refused,
+  module _ (o : Result ⊤ Code) (i : code o ≡ refusal (body_ended_checks x.over x.pen.n (length t₁))) where
+    pub body_later_due : (y : Code) → o ≡ Err y → number y ≡ body_due src (length t)
+    body_later_due y p = sym (ap code p) ∙ i ∙ sym decided.same
 
-    module _ (h : n ≡ 0) where
-      laid : Laid numbers (page t 0) (page t₁ end)
-      laid = k.tree (decided.not_over (sym i ∙ h))
+    -- or its reading fits.
+    pub body_accepted : (u : ⊤) → o ≡ Ok u → AcceptedBody src t t₁ x.pen.n
+    body_accepted u p =
+        let n : found ≡ 0 = sym i ∙ ap code p in
+        let l : Laid numbers (page t 0) (page t₁ end) = k.tree (decided.not_over n) in
+        let w : end ≤ length t₁ = decided.within n in
+        record { none = decided.same ∙ n; within = w; countable = omega (arith, laid_end l nt w, many, countable); laid = l }
 
-      end_in : end ≤ length t₁
-      end_in = decided.within (sym i ∙ h)
+-- The answers, of a table that kept its length.
+module _ (src t t₁ : List ℕ) (bt : length t₁ ≡ length t) (a : Counted) (t₂ : List ℕ) where
+  pub refused_body : (y : Code) → number y ≡ body_due src (length t) → BodyRefused (number y) (length t₁) a t₂ → ReadsDefineBody src (length t) a t₂
+  refused_body y d f = body_refused_by src _ (number y) a t₂ (above y) (sym d) f.answer (f.entry_table ∙ ap zeros bt)
 
-      count : end / Width.entry ≡ length list
-      count = omega (arith, laid_end laid nt end_in, many)
-
-      -- or it can be finished,
-      pub body_fits : (x.pen.n ≤ length t₁) × Countable (x.pen.n / Width.entry)
-      body_fits = (end_in, omega (arith, count, countable))
-
-      -- and is accepted.
-      pub body_whole : (a : Counted) (t₂ : List ℕ) → BodyFinished x.pen.n t₁ a t₂ → ReadsDefineBody src (length t) a t₂
-      body_whole a t₂ f = body_accepted_by src _ _ a t₂ (decided.same ∙ sym i ∙ h) count f.answer (f.entry_table ∙ laid_cleared laid nt end_in)
+  pub accepted_body : (n : ℕ) → length t < far → AcceptedBody src t t₁ n → BodyFinished n t₁ a t₂ → ReadsDefineBody src (length t) a t₂
+  accepted_body n nt k f =
+      let m : n / Width.entry ≡ length (entries 0 0 (parse_define_body src))
+      = omega (arith, laid_end k.laid nt k.within, length_entries (entries 0 0 (parse_define_body src))) in
+      body_accepted_by src _ _ a t₂ k.none m f.answer (f.entry_table ∙ laid_cleared k.laid nt k.within)

@@ -1,3 +1,4 @@
+pub mod Codes
 pub mod Promises
 pub mod Parsing
 pub mod Fitting

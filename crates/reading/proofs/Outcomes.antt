@@ -1,4 +1,5 @@
 -- The outcomes of a reading of a source that was written as far as its tables go.
+use Rattle.std.specs.Prelude.{⊤, Result, Ok, Err}
 use Prim.Native.Nat.{ℕ, ◌*◌, ◌/◌, ◌≤◌, ◌<◌}
 use mathlib.Core.Path.{◌≡◌, refl, ap, sym, ◌∙◌}
 use mathlib.Core.Bool.{Bool, true, false}
@@ -7,14 +8,16 @@ use native.Mathlib.Decide.{dec_le}
 use native.Mathlib.Omega.{arith}
 use lib.ListN.{length, take}
 use lib.Seq.{sets}
-use Rattle.definition.specs.Tree.{Width, entries}
+use Rattle.definition.specs.Tree.{Width}
 use Rattle.definition.specs.LineMap.{line_table}
 use Rattle.definition.specs.Error.{error_numbers}
-use Rattle.definition.specs.Calls.{Refusal, longest_source, refusal, source_checks, Full, full_reading, entries_of, errors_of, too_many, reading_checks}
+use Rattle.definition.specs.Calls.{Refusal, longest_source, refusal, source_checks, Full, full_reading, entries_of, errors_of, too_many}
 use Rattle.theorems.proofs.Refusals.{length_entries, length_errors}
 use Rattle.theorems.proofs.Lexing.Lines.{few_lines}
 use Rattle.table.specs.Row.{far}
 use Rattle.table.proofs.Tables.{zeros}
+use Rattle.text.specs.Refusal.{number, code}
+use Rattle.text.specs.declared.refusal.Refusal.{Refusal as Code}
 use Rattle.text.proofs.Refusals.{source_length}
 use Rattle.error.specs.Lines.{Starts, resolved}
 use Rattle.error.proofs.Resolved.{resolved_written}
@@ -22,18 +25,19 @@ use Rattle.error.proofs.Starting.{lines_rise}
 use Rattle.tables.specs.declared.Reading.{Reading}
 use Rattle.tables.specs.declared.Ends.{Ends}
 use Rattle.reading.specs.Promise.{Whole, ReadsSource}
-use Rattle.reading.specs.Parsed.{Ended}
+use Rattle.reading.specs.Parsed.{Ended, due, Accepted}
 use Rattle.tables.specs.Decided.{ended_checks, Refused, Countable, Fit, cleared_behind, Finished}
 use Rattle.reading.proofs.Promises.{refused_by, accepted_by, refused_source, refused_concats, refused_entries, refused_errors, refused_lines, not_refused}
 use Rattle.tables.proofs.Ending.{ended_over, ended_entries, ended_errors, ended_lines, ended_well}
+use Rattle.reading.proofs.Codes.{above}
 use Rattle.reading.proofs.Fitting.{front_is, cleared_is, laid_short, laid_fits, laid_table, laid_end, laid_cleared}
 use Rattle.theorems.proofs.Weights.{few_entries, few_errors}
 
 -- A source that is refused.
-pub read_refused : (src : List ℕ) (a b c n : ℕ) (r : Reading) (t e l : List ℕ) → n ≡ refusal (source_checks src) → (n ≡ 0 → ⊥)
-    → Refused n a b c r t e l → ReadsSource src a b c r t e l
-read_refused src a b c n r t e l q d f =
-    rw f.answer (refused_by src a b c n t e l d (refused_source src a b c n q d) f.entry_table f.error_table f.line_table)
+pub first_due : (src : List ℕ) (a b c : ℕ) (o : Result ⊤ Code) (y : Code) → code o ≡ refusal (source_checks src) → o ≡ Err y → number y ≡ due src a b c
+first_due src a b c o y e q =
+    let n : number y ≡ refusal (source_checks src) = sym (ap code q) ∙ e in
+    sym (refused_source src a b c (number y) n (above y))
 
 -- One that is not.
 module _ (src t e l : List ℕ) (r : ℕ) (q : r ≡ refusal (source_checks src)) (z : r ≡ 0)
@@ -133,14 +137,11 @@ module _ (src t e l : List ℕ) (r : ℕ) (q : r ≡ refusal (source_checks src)
   abbrev found : ℕ
   found = refusal (ended_checks x (length t₁) (length e₁) (length l₁))
 
-  abbrev due : ℕ
-  due = refusal (reading_checks src full (length t) (length e) (length l))
-
   record Decided (n : ℕ) : Type 0 where
-    same : due ≡ n
+    same : due src (length t) (length e) (length l) ≡ n
     good : n ≡ 0 → Good
 
-  refuse : (n : ℕ) → (n ≡ 0 → ⊥) → due ≡ n → n ≡ found → Decided found
+  refuse : (n : ℕ) → (n ≡ 0 → ⊥) → due src (length t) (length e) (length l) ≡ n → n ≡ found → Decided found
   refuse n d h i = rw (← i) (record { same = h; good = λ j. absurd (d j) })
 
   decided : Decided found
@@ -182,21 +183,30 @@ module _ (src t e l : List ℕ) (r : ℕ) (q : r ≡ refusal (source_checks src)
             (ended_entries x _ _ _ o (omega arith))
       ]
 
-  module _ (n : ℕ) (i : n ≡ refusal (ended_checks x (length t₁) (length e₁) (length l₁))) where
-    -- It is refused,
-    pub read_short : (a : Reading) (t₂ e₂ l₂ : List ℕ) → (n ≡ 0 → ⊥) → Refused n (length t₁) (length e₁) (length l₁) a t₂ e₂ l₂
-        → ReadsSource src (length t) (length e) (length l) a t₂ e₂ l₂
-    read_short a t₂ e₂ l₂ d f =
-        rw f.answer (refused_by src _ _ _ n t₂ e₂ l₂ d (decided.same ∙ sym i)
-        (f.entry_table ∙ ap zeros bt) (f.error_table ∙ ap zeros be) (f.line_table ∙ ap zeros bl))
+  -- By what the test of the tables says the source is refused,
+  module _ (o : Result ⊤ Code) (i : code o ≡ refusal (ended_checks x (length t₁) (length e₁) (length l₁))) where
+    pub later_due : (y : Code) → o ≡ Err y → number y ≡ due src (length t) (length e) (length l)
+    later_due y p = sym (ap code p) ∙ i ∙ sym decided.same
 
-    -- or it can be finished,
-    pub read_fits : n ≡ 0 → Fit x t₁ e₁ l₁
-    read_fits h = good_fit (decided.good (sym i ∙ h))
+    -- or its reading fits.
+    pub accepted : (u : ⊤) → o ≡ Ok u → Accepted src t e l x t₁ e₁ l₁
+    accepted u p =
+        let n : found ≡ 0 = sym i ∙ ap code p in
+        let g : Good = decided.good n in
+        record { passed = sym q ∙ z; none = decided.same ∙ n; ended = k; not_over = g.not_over; fit = good_fit g }
 
-    -- and is accepted.
-    pub read_whole : (a : Reading) (t₂ e₂ l₂ : List ℕ) → n ≡ 0 → Finished x t₁ e₁ l₁ a t₂ e₂ l₂
-        → ReadsSource src (length t) (length e) (length l) a t₂ e₂ l₂
-    read_whole a t₂ e₂ l₂ h f =
-        accepted_by src _ _ _ a t₂ e₂ l₂ (decided.same ∙ sym i ∙ h) (ap (λ (y : Reading). y.refusal) f.answer)
-        (good_whole (decided.good (sym i ∙ h)) a t₂ e₂ l₂ f)
+-- The answers, of tables that kept their lengths.
+module _ (src t e l t₁ e₁ l₁ : List ℕ) (bt : length t₁ ≡ length t) (be : length e₁ ≡ length e) (bl : length l₁ ≡ length l) (a : Reading) (t₂ e₂ l₂ : List ℕ) where
+  pub refused_read : (y : Code) → number y ≡ due src (length t) (length e) (length l) → Refused (number y) (length t₁) (length e₁) (length l₁) a t₂ e₂ l₂
+      → ReadsSource src (length t) (length e) (length l) a t₂ e₂ l₂
+  refused_read y d f =
+      rw f.answer (refused_by src _ _ _ (number y) t₂ e₂ l₂ (above y) (sym d)
+      (f.entry_table ∙ ap zeros bt) (f.error_table ∙ ap zeros be) (f.line_table ∙ ap zeros bl))
+
+  pub accepted_read : (x : Ends) → length t < far → length e < far → Accepted src t e l x t₁ e₁ l₁ → Finished x t₁ e₁ l₁ a t₂ e₂ l₂
+      → ReadsSource src (length t) (length e) (length l) a t₂ e₂ l₂
+  accepted_read x nt ne k f =
+      let g : Good src t e l _ refl k.passed x t₁ e₁ l₁ k.ended bt be bl nt ne
+      = record { not_over = k.not_over; entries = k.fit.entries; errors = k.fit.errors; lines = k.fit.lines.within } in
+      accepted_by src _ _ _ a t₂ e₂ l₂ k.none (ap (λ (y : Reading). y.refusal) f.answer)
+      (good_whole src t e l _ refl k.passed x t₁ e₁ l₁ k.ended bt be bl nt ne g a t₂ e₂ l₂ f)

@@ -1,9 +1,9 @@
 -- What the reading of a source, or of a define body, leaves before it is decided whether its tables are long enough.
-use Rattle.std.specs.Prelude.{ℕ, ◌≤◌, ◌<◌, ◌≡◌, false, List, [], length, replicate}
-use Rattle.definition.specs.Tree.{entries, entry_numbers, body_concats}
+use Rattle.std.specs.Prelude.{ℕ, ◌/◌, ◌≤◌, ◌<◌, ◌≡◌, false, List, [], length, replicate}
+use Rattle.definition.specs.Tree.{Width, entries, entry_numbers, body_concats}
 use Rattle.definition.specs.Error.{error_numbers}
 use Rattle.definition.specs.Syntax.{parse_define_body}
-use Rattle.definition.specs.Calls.{longest_source, full_reading, entries_of, too_many}
+use Rattle.definition.specs.Calls.{longest_source, refusal, source_checks, reading_checks, full_reading, entries_of, too_many}
 use Rattle.theorems.specs.Height.{open_levels}
 use Rattle.theorems.specs.LeavesFrom.{leaves_from}
 use Rattle.pre.specs.Table.{class_table}
@@ -16,6 +16,8 @@ use Rattle.rows.specs.declared.BodyRow.{BodyRow}
 use Rattle.parser_run.specs.declared.ParserRun.{ParserRun}
 use Rattle.tables.specs.declared.Ends.{Ends}
 use Rattle.syntax_kind.specs.declared.kind.SyntaxKind.{SyntaxKind}
+use Rattle.tables.specs.Decided.{Countable, Fit}
+use Rattle.reading.specs.Promise.{body_checks}
 
 -- Where a reading begins: all leaves are left to read, and nothing was written.
 pub record Begins (src : List ℕ) (st : ParserRun) : Type 0 where
@@ -50,3 +52,25 @@ pub record Ended (src t e l : List ℕ) (x : Ends) (t' e' l' : List ℕ) : Type 
   pub entries : x.over ≡ false → Laid (entries_of (full_reading src)) (page t 0) (page t' x.entries)
   pub errors : Laid (error_numbers [] (full_reading src).error_list) (page e 0) (page e' x.errors)
   pub lines : Written (full_reading src).lines l x.lines l'
+
+-- The refusal that a source is due, with tables of these lengths,
+abbrev pub due : List ℕ → ℕ → ℕ → ℕ → ℕ
+due src a b c = refusal (reading_checks src (full_reading src) a b c)
+
+-- and one that is due none: its reading fits the tables.
+pub record Accepted (src t e l : List ℕ) (x : Ends) (t' e' l' : List ℕ) : Type 0 where
+  pub passed : refusal (source_checks src) ≡ 0
+  pub none : due src (length t) (length e) (length l) ≡ 0
+  pub ended : Ended src t e l x t' e' l'
+  pub not_over : x.over ≡ false
+  pub fit : Fit x t' e' l'
+
+-- The same of a define body that ended at n.
+abbrev pub body_due : List ℕ → ℕ → ℕ
+body_due src a = refusal (body_checks src a)
+
+pub record AcceptedBody (src t t' : List ℕ) (n : ℕ) : Type 0 where
+  pub none : body_due src (length t) ≡ 0
+  pub within : n ≤ length t'
+  pub countable : Countable (n / Width.entry)
+  pub laid : Laid (entry_numbers (entries 0 0 (parse_define_body src))) (page t 0) (page t' n)

@@ -1,15 +1,18 @@
 // The tree and the errors of a source, written as far as the tables go.
-ghost use Rattle.std.specs.Prelude.{◌≡◌, ◌≤◌, ◌<◌, length};
+ghost use Rattle.std.specs.Prelude.{◌≡◌, ◌≤◌, ◌<◌, length, IfOk, IfErr};
 ghost use Rattle.definition.specs.Calls.{longest_source};
 ghost use Rattle.pre.specs.Table.{class_table};
 ghost use Rattle.table.specs.Row.{far};
-ghost use Rattle.reading.specs.Parsed.{Begins, Lent, Parsed, Ended};
+ghost use Rattle.text.specs.Refusal.{number};
+ghost use Rattle.reading.specs.Parsed.{Begins, Lent, Parsed, Ended, due, Accepted};
 
 use parser_run::ParserRun;
 use pre::class::Classes;
 use pre::class;
 use syntax_kind::number::Kind;
 use tables::Ends;
+use text::refusal::Refusal;
+use text::source;
 use tree::level::OPEN_LEVELS;
 use tree::{Pen, level};
 
@@ -70,4 +73,20 @@ pub fn write(src: &[u8], entries: &mut [u32], errors: &mut [u32], lines: &mut [u
         errors: state.errs,
         lines: n,
     }
+}
+
+// Reads a source into tables that are long enough for it, or says why it is refused.
+pub fn read(
+    src: &[u8],
+    entries: &mut [u32],
+    errors: &mut [u32],
+    lines: &mut [u32],
+) -> Result<Ends, Refusal>
+    ensures refused { IfErr result (λ r. number r ≡ due src.now (length entries.old) (length errors.old) (length lines.old)) }
+    ensures accepted { IfOk result (λ x. Accepted src.now entries.old errors.old lines.old x entries.new errors.new lines.new) }
+{
+    source::check(src)?;
+    let ends = write(src, entries, errors, lines);
+    tables::shortage(ends, entries.len(), errors.len(), lines.len())?;
+    Ok(ends)
 }
