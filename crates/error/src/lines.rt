@@ -19,7 +19,7 @@ fn locate(errors: &mut [u32], n: usize, lines: &[u32])
     errors[n + COLUMN] = start - lines[line];
 }
 
-// Fills in the lines and the columns of all errors of a table from a line table.
+// Fills in the lines and the columns of all errors of a table from a line table. By places: what was written through `chunks_exact_mut` is not known behind it.
 pub fn resolve(errors: &mut [u32], lines: &[u32])
     requires { line_table lines.now ≡ true }
     ensures { errors.new ≡ resolved lines.now errors.old 0 (length errors.old / Width.error) }

@@ -53,7 +53,7 @@ pub fn shortage(ends: Ends, entries: usize, errors: usize, lines: usize) -> Resu
     Ok(())
 }
 
-// A refused reading: all tables are cleared.
+// A refused reading: all tables are cleared, one by one, since what is written in a loop over them is not known behind it.
 pub fn refused(
     entries: &mut [u32],
     errors: &mut [u32],

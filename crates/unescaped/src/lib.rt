@@ -14,7 +14,7 @@ ghost use Rattle.unescaped.specs.MayBe.{may_be as MayBe·may_be};
 use text::refusal::Refusal;
 use text::{Counted, newline, source};
 
-// How many bytes the continuation at a place has, a backslash and a newline; 0: none stands there.
+// How many bytes the continuation at a place has, a backslash and a newline; 0: none stands there, and nothing is passed over.
 #[tactic(auto, using(crate::proofs::Continuations::none_here, crate::proofs::Continuations::alone_here, crate::proofs::Continuations::continuation_here, crate::proofs::Continuations::continuation_fits))]
 fn continuation_at(text: &[u8], at: usize) -> usize
     ensures { result ≡ continuation (drop at text.now) }
@@ -79,7 +79,7 @@ pub fn eq(text: &[u8], word: &[u8]) -> bool
     may_be(text, word.len(), newline::byte_at(word, 0)) && eq_bytes(text, word)
 }
 
-// Whether two texts are the same, both unescaped.
+// Whether two texts are the same, both unescaped; `eq_bytes` takes its word as it stands, so that the two loops are not one.
 pub fn same_unescaped(a: &[u8], b: &[u8]) -> bool
     ensures { result ≡ same (unescaped a.now) (unescaped b.now) }
 {
