@@ -1,5 +1,4 @@
 pub mod Ranges
-pub mod Wide
 pub mod Bitwise
 pub mod Shifts
 pub mod Matches

@@ -1,47 +1,45 @@
--- Which whole numbers of 64 bits are values of 32, by the tests of the code.
+-- The values of 32 bits: a number that fits is one, and another is outside.
+use Rattle.std.specs.Prelude.{Result, Ok, Err, Option, Some, None, ok_or}
+use Rattle.std.specs.Option.{SomeIff}
+use Rattle.std.specs.Result.{MatchResult, IsErrAnd, OkIff}
 use Prim.Native.Nat.{◌^◌}
-use mathlib.Core.Path.{◌≡◌, sym}
-use mathlib.Core.Bool.{true, false, false≢true}
+use native.Mathlib.Decide.{dec_lt}
+use mathlib.Core.Path.{◌≡◌, sym, ap, ◌∙◌}
+use lib.IntN.{ℤ}
+use lib.Signed.{mag}
+use borrow.Author.Tests.{lt-ltb, le-ltb}
 use native.Mathlib.Omega.{arith}
-use lib.IntN.{ℤ, pos, negsuc}
-use lib.Signed.{mag, lt_z}
-use borrow.Author.Tests.{ltb-true, ltb-false, lt-ltb, le-ltb}
 use mir.Syntax.{w32, w64}
 use mir.Val.{SFits, to_z, of_z}
 use mir.Facts.{to_z-of_z}
 use Rattle.text.proofs.Cases.{if_true, if_false}
+use Rattle.text.specs.declared.refusal.Refusal.{Refusal}
+use Rattle.text.specs.declared.refusal.Refusal.TheVariants.{Range}
 use Rattle.definition.specs.Condition.Value.{value, outside, within}
-
--- Below -2^31.
-pub too_low : {z : ℤ} → SFits w64 z → lt_z (to_z w64 (of_z w64 z)) (negsuc 2147483647) ≡ true → within z ≡ outside
-unfolding within
-too_low {z} h e = go z (rw (to_z-of_z h) at e)
-  where
-    go : (z : ℤ) → lt_z z (negsuc 2147483647) ≡ true → within z ≡ outside
-    go (pos n) e = absurd (false≢true e)
-    go (negsuc n) e = if_false _ _ _ (le-ltb n (2 ^ 31) (omega (arith, ltb-true 2147483647 n e)))
-
--- Above 2^31 - 1.
-pub too_high : {z : ℤ} → SFits w64 z → lt_z (pos 2147483647) (to_z w64 (of_z w64 z)) ≡ true → within z ≡ outside
-unfolding within
-too_high {z} h e = go z (rw (to_z-of_z h) at e)
-  where
-    go : (z : ℤ) → lt_z (pos 2147483647) z ≡ true → within z ≡ outside
-    go (pos n) e = if_false _ _ _ (le-ltb n (2 ^ 31) (omega (arith, ltb-true 2147483647 n e)))
-    go (negsuc n) e = absurd (false≢true e)
-
--- Between them.
-pub between : {z : ℤ} → SFits w64 z → lt_z (to_z w64 (of_z w64 z)) (negsuc 2147483647) ≡ false → lt_z (pos 2147483647) (to_z w64 (of_z w64 z)) ≡ false → SFits w32 z
-between {z} h e f = go z (rw (to_z-of_z h) at e) (rw (to_z-of_z h) at f)
-  where
-    go : (z : ℤ) → lt_z z (negsuc 2147483647) ≡ false → lt_z (pos 2147483647) z ≡ false → SFits w32 z
-    go (pos n) e f = record { sfits = omega (arith, ltb-false 2147483647 n f) }
-    go (negsuc n) e f = record { sfits = omega (arith, ltb-false 2147483647 n e) }
+use Rattle.arithmetic.specs.Told.{told}
 
 pub fits_within : {z : ℤ} → SFits w32 z → within z ≡ value z
 unfolding within
 fits_within {z} h = if_true _ _ _ (lt-ltb (mag z) (2 ^ 31) h.sfits)
 
--- What a cast to 32 bits then keeps.
-pub kept : {z : ℤ} → SFits w64 z → SFits w32 z → value (to_z w32 (of_z w32 (to_z w64 (of_z w64 z)))) ≡ within z
-kept h k = rw (to_z-of_z h, to_z-of_z k) (sym (fits_within k))
+pub outside_within : (z : ℤ) → (SFits w32 z → ⊥) → within z ≡ outside
+unfolding within
+outside_within z n = elim (dec_lt (mag z) (2 ^ 31)) [
+  | yes h ↦ absurd (n (record { sfits = h }))
+  | no h ↦ if_false _ _ _ (le-ltb (mag z) (2 ^ 31) (omega arith))
+]
+
+-- An operation that gives none where its number does not fit.
+pub checked : (z : ℤ) (o : Option ℤ) (r : Result ℤ Refusal) → SomeIff o (SFits w32 z) z → r ≡ ok_or o Range → told r ≡ within z
+checked z None r n e = ap told e ∙ sym (outside_within z n)
+checked z (Some x) r (f, q) e = ap told e ∙ ap (λ y. value y) q ∙ sym (fits_within f)
+
+-- A conversion that fails there.
+pub fitted : (z : ℤ) {E : Type 0} {Q : E → Refusal → Type 0} (o : Result ℤ E) (r : Result ℤ Refusal)
+    → ((e : E) (x : Refusal) → Q e x → x ≡ Range) → MatchResult o (λ x. r ≡ Ok x) (λ e. IsErrAnd r (Q e)) → OkIff o (SFits w32 z) z → told r ≡ within z
+fitted z {Q = Q} (Ok x) r q m (g, p) = ap told m ∙ ap (λ y. value y) p ∙ sym (fits_within g)
+fitted z {Q = Q} (Err e) r q m n = go r m ∙ sym (outside_within z n)
+  where
+    go : (r : Result ℤ Refusal) → IsErrAnd r (Q e) → told r ≡ outside
+    go (Ok x) h = absurd h
+    go (Err x) h = ap (λ (y : Refusal). told (Err y)) (q e x h)

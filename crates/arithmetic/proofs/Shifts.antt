@@ -1,87 +1,65 @@
 -- Shifts by 0 to 31 places.
-use Prim.Native.Nat.{ℕ, ◌*◌, ◌%◌, ◌^◌, ◌<◌}
+use Rattle.std.specs.Prelude.{◌&&◌}
+use Rattle.std.specs.Ordering.{is_le, is_lt, int_cmp}
+use Prim.Native.Nat.{ℕ, zero, suc, ◌*◌, ◌%◌, ◌^◌, ◌<◌}
+use native.Mathlib.Decide.{dec_lt}
+use native.Mathlib.Omega.{arith}
 use mathlib.Core.Path.{◌≡◌, refl, sym, ◌∙◌, ap}
 use mathlib.Core.Bool.{true, false, false≢true}
-use native.Mathlib.Omega.{arith}
-use native.Mathlib.Nat.{mul-le-mul, one-mul}
-use lib.Pow.{pow_mono, pow-lt, shl_exact}
+use lib.Pow.{pow_mono}
 use lib.IntN.{ℤ, pos, negsuc, ◌*ℤ◌}
-use lib.Signed.{lt_z, shr_z, mag_shr, nat_abs-le}
-use borrow.Author.Tests.{ltb-true, ltb-false, lt-ltb, le-ltb}
+use lib.Signed.{shr_z, mag_shr, nat_abs-le}
+use borrow.Author.Tests.{lt-ltb, le-ltb}
 use mir.Syntax.{w32, w64}
 use mir.Val.{SFits, to_z, of_z}
 use mir.Facts.{to_z-of_z, to_z_pos}
 use mir.ValLaws.{sfits_le}
+use Rattle.std.proofs.lemmas.Nat.{one_shl}
+use Rattle.std.proofs.lemmas.Int.{fits_signed_mul}
 use Rattle.text.proofs.Cases.{if_true, if_false}
 use Rattle.definition.specs.Condition.Value.{value, outside, within, shifted}
 use Rattle.arithmetic.proofs.Ranges.{fits_within}
-use Rattle.arithmetic.proofs.Wide.{wide, wide_is, mag_mul}
 
 -- Negative places, and more than 31.
-pub shift_low : (f : ℕ → ℤ) {y : ℤ} → SFits w32 y → lt_z (to_z w32 (of_z w32 y)) (pos 0) ≡ true → shifted f y ≡ outside
+pub no_places : {y : ℤ} → SFits w32 y → is_le (int_cmp (pos 0) (to_z w32 (of_z w32 y))) && is_lt (int_cmp (to_z w32 (of_z w32 y)) (pos 32)) ≡ false → (f : ℕ → ℤ) → outside ≡ shifted f y
 unfolding shifted
-shift_low f {y} h e = go y (rw (to_z-of_z h) at e)
+no_places {y} h e f = go y (rw (to_z-of_z h) at e)
   where
-    go : (y : ℤ) → lt_z y (pos 0) ≡ true → shifted f y ≡ outside
-    go (pos n) e = absurd (omega (arith, ltb-true n 0 e))
-    go (negsuc n) e = refl
+    below : (n : ℕ) → n < 32 → is_le (int_cmp (pos 0) (pos n)) && is_lt (int_cmp (pos n) (pos 32)) ≡ true
+    below zero h = rw (lt-ltb 0 32 h)
+    below (suc n) h = rw (lt-ltb 0 (suc n) (omega arith), lt-ltb (suc n) 32 h)
 
-pub shift_high : (f : ℕ → ℤ) {y : ℤ} → SFits w32 y → lt_z (pos 31) (to_z w32 (of_z w32 y)) ≡ true → shifted f y ≡ outside
-unfolding shifted
-shift_high f {y} h e = go y (rw (to_z-of_z h) at e)
-  where
-    go : (y : ℤ) → lt_z (pos 31) y ≡ true → shifted f y ≡ outside
-    go (pos n) e = if_false _ _ _ (le-ltb n 32 (omega (arith, ltb-true 31 n e)))
+    go : (y : ℤ) → is_le (int_cmp (pos 0) y) && is_lt (int_cmp y (pos 32)) ≡ false → outside ≡ shifted f y
+    go (pos n) e = elim (dec_lt n 32) [
+      | yes h ↦ absurd (false≢true (sym e ∙ below n h))
+      | no h ↦ sym (if_false _ _ _ (le-ltb n 32 (omega arith)))
+    ]
     go (negsuc n) e = refl
 
 -- The others.
-pub data Shift : ℤ → Type 0 where
-  by : (n : ℕ) → n < 32 → Shift (pos n)
+module _ {x y : ℤ} {n : ℕ} (k : SFits w32 x) (e : to_z w32 (of_z w32 y) ≡ pos n) (l : n < 32) (g : SFits w32 y) where
+  shifts : (f : ℕ → ℤ) → shifted f y ≡ within (f (2 ^ n))
+  unfolding shifted
+  shifts f = rw (sym (to_z-of_z g) ∙ e) (if_true _ _ _ (lt-ltb n 32 l))
 
-pub shift : {y : ℤ} → SFits w32 y → lt_z (to_z w32 (of_z w32 y)) (pos 0) ≡ false → lt_z (pos 31) (to_z w32 (of_z w32 y)) ≡ false → Shift y
-shift {y} h e f = go y (rw (to_z-of_z h) at e) (rw (to_z-of_z h) at f)
-  where
-    go : (y : ℤ) → lt_z y (pos 0) ≡ false → lt_z (pos 31) y ≡ false → Shift y
-    go (pos n) e f = by n (omega (arith, ltb-false 31 n f))
-    go (negsuc n) e f = absurd (false≢true (sym e))
+  -- The power that 1 shifted by them is in 64 bits, and the product.
+  power_is : to_z w64 ((1 * 2 ^ n) % 2 ^ 64) ≡ pos (2 ^ n)
+  power_is = ap (to_z w64) (one_shl n 64 (omega arith)) ∙ to_z_pos w64 (let m = pow_mono {i = n} {j = 31} (omega arith) in omega arith)
 
-pub shifts : (f : ℕ → ℤ) (n : ℕ) → n < 32 → shifted f (pos n) ≡ within (f (2 ^ n))
-unfolding shifted
-shifts f n h = if_true _ _ _ (lt-ltb n 32 h)
+  product_fits : SFits w64 (x *ℤ pos (2 ^ n))
+  product_fits = fits_signed_mul w64 x (pos (2 ^ n)) (2 ^ 31) (2 ^ 31) (nat_abs-le x k.sfits) (pow_mono {i = n} {j = 31} (omega arith)) (omega arith)
 
--- The places in 64 bits, and the power that 1 shifted by them is.
-places_is : (n : ℕ) → n < 32 → of_z w64 (to_z w32 n) ≡ n
-places_is n h = ap (of_z w64) (to_z_pos w32 (omega arith))
+  module _ {w : ℤ} (q : w ≡ to_z w32 (of_z w32 x)) (s : SFits w64 w) where
+    product_is : to_z w64 (of_z w64 w) *ℤ to_z w64 ((1 * 2 ^ n) % 2 ^ 64) ≡ x *ℤ pos (2 ^ n)
+    product_is = rw (to_z-of_z s, power_is, q, to_z-of_z k)
 
-power_is : (n : ℕ) → n < 32 → to_z w64 ((1 * 2 ^ n) % 2 ^ 64) ≡ pos (2 ^ n)
-power_is n h = ap (to_z w64) (shl_exact {a = 1} 1 n 64 (omega arith) (omega arith) ∙ one-mul (2 ^ n)) ∙ to_z_pos w64 (pow-lt {i = n} {j = 63} (omega arith))
+    pub left_asks : SFits w64 (to_z w64 (of_z w64 w) *ℤ to_z w64 ((1 * 2 ^ n) % 2 ^ 64))
+    left_asks = rw product_is product_fits
 
-pub places : {y : ℤ} → Shift y → of_z w64 (to_z w32 (of_z w32 y)) < 64
-places (by n h) = rw (places_is n h) (omega arith)
+    pub left : within (to_z w64 (of_z w64 (to_z w64 (of_z w64 w) *ℤ to_z w64 ((1 * 2 ^ n) % 2 ^ 64)))) ≡ shifted (λ m. x *ℤ pos m) y
+    left = rw (product_is, to_z-of_z product_fits) (sym (shifts (λ m. x *ℤ pos m)))
 
--- The factor of a left shift, and what is to be shown of either shift.
-abbrev pub factor : ℤ → ℤ
-factor y = to_z w64 ((1 * 2 ^ of_z w64 (to_z w32 (of_z w32 y))) % 2 ^ 64)
-
-left_fits : {x : ℤ} (n : ℕ) → SFits w32 x → n < 32 → SFits w64 (x *ℤ pos (2 ^ n))
-left_fits {x} n k h =
-    let m = mag_mul x (pos (2 ^ n)) in
-    let p = mul-le-mul (nat_abs-le x k.sfits) (pow_mono {i = n} {j = 31} (omega arith)) in
-    record { sfits = omega arith }
-
-left_is : {x : ℤ} (n : ℕ) → SFits w32 x → n < 32 → wide x *ℤ factor (pos n) ≡ x *ℤ pos (2 ^ n)
-left_is n k h = rw (wide_is k, places_is n h, power_is n h)
-
-pub left_asks : {x y : ℤ} → SFits w32 x → Shift y → SFits w64 (wide x *ℤ factor y)
-left_asks k (by n h) = rw (left_is n k h) (left_fits n k h)
-
-pub left : {x y : ℤ} → SFits w32 x → Shift y → within (to_z w64 (of_z w64 (wide x *ℤ factor y))) ≡ shifted (λ m. x *ℤ pos m) y
-left {x} k (by n h) = rw (left_is n k h, to_z-of_z (left_fits n k h)) (sym (shifts (λ m. x *ℤ pos m) n h))
-
-pub right_asks : {y : ℤ} → Shift y → of_z w32 y < 32
-right_asks (by n h) = h
-
-pub right : {x y : ℤ} → SFits w32 x → Shift y → value (to_z w32 (of_z w32 (shr_z (to_z w32 (of_z w32 x)) (2 ^ of_z w32 y)))) ≡ shifted (λ m. shr_z x m) y
-right {x} k (by n h) =
-    let s : SFits w32 (shr_z x (2 ^ n)) = sfits_le (mag_shr x (2 ^ n)) k in
-    rw (to_z-of_z k, to_z-of_z s) (sym (shifts (λ m. shr_z x m) n h ∙ fits_within s))
+  pub right : value (to_z w32 (of_z w32 (shr_z (to_z w32 (of_z w32 x)) (2 ^ n)))) ≡ shifted (λ m. shr_z x m) y
+  right =
+      let s : SFits w32 (shr_z x (2 ^ n)) = sfits_le (mag_shr x (2 ^ n)) k in
+      rw (to_z-of_z k, to_z-of_z s) (sym (shifts (λ m. shr_z x m) ∙ fits_within s))

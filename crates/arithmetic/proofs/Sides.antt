@@ -1,52 +1,35 @@
--- What an operator makes of its sides, as answers tell them.
-use Rattle.std.specs.Prelude.{if◌then◌else◌}
+-- What an operator makes of its sides, as results tell them.
+use Rattle.std.specs.Prelude.{if◌then◌else◌, Result, Ok, Err}
 use Prim.Native.Nat.{ℕ}
-use mathlib.Core.Path.{◌≡◌, refl}
+use mathlib.Core.Path.{◌≡◌, refl, sym, ap, ◌∙◌}
 use mathlib.Core.Bool.{Bool, true, false, ◌&&◌, ◌||◌, false≢true, and-eq-true_iff}
 use mathlib.Core.List.{List, [], ◌∷◌}
+use mathlib.Core.Logic.{◌⊎◌, inl, inr}
 use mathlib.Core.Option.{Option, none, some}
-use lib.IntN.{ℤ}
+use lib.IntN.{ℤ, pos}
 use lib.Dec.{eqb}
-use borrow.Author.Tests.{eqb-true, eq-eqb, ne_eqb}
+use borrow.Author.Tests.{eqb-true, ne_eqb}
+use mir.Syntax.{w32}
+use mir.Val.{SFits, to_z, of_z}
+use mir.Facts.{to_z-of_z}
+use Rattle.text.specs.Refusal.{number}
+use Rattle.text.specs.declared.refusal.Refusal.{Refusal}
 use Rattle.definition.specs.Text.{Kind}
 use Rattle.definition.specs.Condition.Value.{Outcome, value, refused}
 use Rattle.definition.specs.Condition.Operators.{Binary, binaries, lookup, binary}
 use Rattle.definition.specs.Condition.Meaning.{after, joins}
-use Rattle.arithmetic.specs.Told.{told, binary_of}
-use Rattle.arithmetic.specs.declared.Value.{Value}
+use Rattle.arithmetic.specs.Told.{told, binary_of, operated, joined}
+use Rattle.arithmetic.proofs.Bitwise.{zero_yes, zero_no}
 
-module _ (v : Value) where
-  -- An answer tells its refusal, or its value.
-  told_refused : (v.refusal ≡ 0 → ⊥) → told v ≡ refused v.refusal
-  unfolding told
-  told_refused n = rw (ne_eqb v.refusal 0 n)
+-- A refusal stays,
+pub stays : {a r : Result ℤ Refusal} {e y : Refusal} (f : ℤ → Outcome) → a ≡ Err e → r ≡ Err y → y ≡ e → told r ≡ after (told a) f
+unfolding after
+stays f p q n = ap told q ∙ ap (λ y. refused (number y)) n ∙ sym (ap (λ a. after (told a) f) p)
 
-  told_value : v.refusal ≡ 0 → told v ≡ value v.value
-  unfolding told
-  told_value e = rw (eq-eqb v.refusal 0 e)
-
-  -- A refusal stays, and a value goes on to what is done with it.
-  pub stays : (f : ℤ → Outcome) → (v.refusal ≡ 0 → ⊥) → told v ≡ after (told v) f
-  unfolding after
-  stays f n = rw (told_refused n)
-
-  pub goes_on : (f : ℤ → Outcome) {t : Outcome} → v.refusal ≡ 0 → t ≡ f v.value → t ≡ after (told v) f
-  unfolding after
-  goes_on f e p = rw (told_value e) p
-
-  -- The left side of a binary operator is refused, or it decides, or the right side does.
-  module _ (o : Binary) (b : Outcome) where
-    pub left_stays : (v.refusal ≡ 0 → ⊥) → told v ≡ joins o (told v) b
-    unfolding joins
-    left_stays n = stays _ n
-
-    pub left_decides : (z : ℤ) {t : Outcome} → v.refusal ≡ 0 → o.decided v.value ≡ some z → t ≡ value z → t ≡ joins o (told v) b
-    unfolding joins
-    left_decides z e d p = goes_on _ e (rw d p)
-
-    pub right_decides : {t : Outcome} → v.refusal ≡ 0 → o.decided v.value ≡ none → t ≡ after b (o.does v.value) → t ≡ joins o (told v) b
-    unfolding joins
-    right_decides e d p = goes_on _ e (rw d p)
+-- and a value goes on to what is done with it.
+pub goes_on : {a : Result ℤ Refusal} {x : ℤ} {t : Outcome} (f : ℤ → Outcome) → a ≡ Ok x → t ≡ f x → t ≡ after (told a) f
+unfolding after
+goes_on f p e = e ∙ sym (ap (λ a. after (told a) f) p)
 
 -- Whether the left side leaves the result open.
 abbrev leaves_open : Option ℤ → Bool
@@ -88,3 +71,43 @@ module _ (k : ℕ) (x : ℤ) (n : k ≡ Kind.AND_OP → ⊥) (m : k ≡ Kind.OR_
   pub neither : (binary_of (binary k)).decided x ≡ none
   unfolding binary binaries every
   neither = all_open binaries refl
+
+-- The left side of a binary operator is refused,
+pub left_refused : {a r : Result ℤ Refusal} {e y : Refusal} (kind : ℕ) (b : Outcome) → a ≡ Err e → r ≡ Err y → y ≡ e → told r ≡ joined kind (told a) b
+unfolding joins
+left_refused kind b p q n = stays _ p q n
+
+module _ (kind : ℕ) {a : Result ℤ Refusal} {x : ℤ} (p : a ≡ Ok x) (f : SFits w32 x) where
+  -- or decides,
+  left_decides : (z : ℤ) (b : Outcome) → (binary_of (binary kind)).decided x ≡ some z → value z ≡ joined kind (told a) b
+  unfolding joins
+  left_decides z b d = goes_on _ p (rw d refl)
+
+  pub and_zero : (b : Outcome) → kind ≡ Kind.AND_OP → of_z w32 x ≡ 0 → value (pos 0) ≡ joined kind (told a) b
+  unfolding binaries lookup binary binary_of
+  and_zero b k z = left_decides (pos 0) b (rw (k, zero_yes f z) refl)
+
+  pub or_other : (b : Outcome) → kind ≡ Kind.OR_OP → (of_z w32 x ≡ 0 → ⊥) → value (pos 1) ≡ joined kind (told a) b
+  unfolding binaries lookup binary binary_of
+  or_other b k z = left_decides (pos 1) b (rw (k, zero_no f z) refl)
+
+  -- or leaves it to the right side.
+  module _ (s : ((kind ≡ Kind.AND_OP) × (of_z w32 x ≡ 0 → ⊥)) ⊎ (kind ≡ Kind.AND_OP → ⊥)) (t : ((kind ≡ Kind.OR_OP) × (of_z w32 x ≡ 0)) ⊎ (kind ≡ Kind.OR_OP → ⊥)) where
+    undecided : (binary_of (binary kind)).decided x ≡ none
+    unfolding binaries lookup binary binary_of
+    undecided = by s t
+      where
+        by : ((kind ≡ Kind.AND_OP) × (of_z w32 x ≡ 0 → ⊥)) ⊎ (kind ≡ Kind.AND_OP → ⊥) → ((kind ≡ Kind.OR_OP) × (of_z w32 x ≡ 0)) ⊎ (kind ≡ Kind.OR_OP → ⊥) → (binary_of (binary kind)).decided x ≡ none
+        by (inl (k, z)) u = rw (k, zero_no f z) refl
+        by (inr n) (inl (k, z)) = rw (k, zero_yes f z) refl
+        by (inr n) (inr m) = neither kind x n m
+
+    right_decides : (b : Outcome) → after b (operated kind x) ≡ joined kind (told a) b
+    unfolding joins
+    right_decides b = goes_on _ p (rw undecided refl)
+
+    pub right_refused : {b r : Result ℤ Refusal} {e y : Refusal} → b ≡ Err e → r ≡ Err y → y ≡ e → told r ≡ joined kind (told a) (told b)
+    right_refused q o n = stays _ q o n ∙ right_decides _
+
+    pub right_valued : {b : Result ℤ Refusal} (r : Result ℤ Refusal) {y : ℤ} → b ≡ Ok y → SFits w32 y → told r ≡ operated kind (to_z w32 (of_z w32 x)) (to_z w32 (of_z w32 y)) → told r ≡ joined kind (told a) (told b)
+    right_valued r q g e = goes_on _ q (rw (to_z-of_z f, to_z-of_z g) at e) ∙ right_decides _

@@ -1,14 +1,22 @@
--- What an answer of the code tells, and the operator of a kind in the contracts of functions that take any kind.
-use Rattle.std.specs.Prelude.{ℤ, if◌then◌else◌}
-use Rattle.definition.specs.Text.{ℕ, suc, Bool, true, false, Option, none, some, eqb}
-use Rattle.definition.specs.Condition.Value.{Outcome, value, refused}
+-- What a result of the code tells, and the operator of a kind in the contracts of functions that take any kind.
+use Rattle.std.specs.Prelude.{ℤ, pos, ◌≡◌, ◌<◌, Result, Ok, Err}
+use Rattle.definition.specs.Text.{ℕ, suc, Bool, true, false, Option, none, some}
+use Rattle.definition.specs.Condition.Value.{Outcome, value, refused, shifted}
 use Rattle.definition.specs.Condition.Operators.{Binary, Unary, binary, unary}
 use Rattle.definition.specs.Condition.Meaning.{after, joins}
 use Rattle.definition.specs.Condition.Valuing.{no_expression}
-use Rattle.arithmetic.specs.declared.Value.{Value}
+use Rattle.text.specs.Refusal.{number}
+use Rattle.text.specs.declared.refusal.Refusal.{Refusal}
 
-unfoldable pub told : Value → Outcome
-told v = if eqb v.refusal 0 then value v.value else refused v.refusal
+-- The outcome that a result tells.
+abbrev pub told : Result ℤ Refusal → Outcome
+told (Ok z) = value z
+told (Err r) = refused (number r)
+
+-- The places of a shift by a number: 0 to 31, or the shift is refused.
+abbrev pub Places : ℤ → Result ℕ Refusal → Type 0
+Places y (Ok n) = (y ≡ pos n) × (n < 32)
+Places y (Err r) = (f : ℕ → ℤ) → refused (number r) ≡ shifted f y
 
 -- An operator that a kind may lack: then it gives no expression.
 unfoldable pub binary_of : Option Binary → Binary

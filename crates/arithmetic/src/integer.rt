@@ -1,104 +1,51 @@
-// What each operator does with two values.
-ghost use Rattle.std.specs.Prelude.{◌≡◌, pos, ◌+ℤ◌, ◌-ℤ◌, ◌*ℤ◌};
-ghost use Rattle.std.specs.Int.Signed.{quot_z, rem_z, shr_z};
-ghost use Rattle.std.specs.Int.Bits.{bit_and, bit_or, bit_xor};
-ghost use Rattle.definition.specs.Condition.Value.{within, truth, is_zero, equal, bitwise, divided, shifted};
-ghost use Rattle.arithmetic.specs.Told.{told};
+// What the operators do that a method of i32 does not do alone.
+ghost use Rattle.std.specs.Prelude.{◌≡◌, pos, ◌*ℤ◌};
+ghost use Rattle.std.specs.Int.Signed.{rem_z, shr_z};
+ghost use Rattle.definition.specs.Condition.Value.{within, divided, shifted};
+ghost use Rattle.arithmetic.specs.Told.{told, Places};
 
-use crate::{Value, answers};
+use text::refusal::Refusal;
 
-pub fn times(x: i32, y: i32) -> Value
-    ensures { told result ≡ within (x *ℤ y) }
+// A whole number as a value, if it is one of 32 bits.
+fn fit(z: i64) -> Result<i32, Refusal>
+    ensures { told result ≡ within z }
 {
-    answers::fit(x as i64 * y as i64)
+    i32::try_from(z).map_err(|_| Refusal::Range)
 }
 
-// Division truncates toward zero.
-pub fn quotient(x: i32, y: i32) -> Value
-    ensures { told result ≡ divided quot_z x y }
-{
-    if y == 0 {
-        return answers::outside();
-    }
-    answers::fit(x as i64 / y as i64)
-}
-
-// What that quotient leaves.
-pub fn remainder(x: i32, y: i32) -> Value
+// What a quotient truncated toward zero leaves; that of -1 is always 0.
+pub fn remainder(x: i32, y: i32) -> Result<i32, Refusal>
     ensures { told result ≡ divided rem_z x y }
 {
     if y == 0 {
-        return answers::outside();
+        return Err(Refusal::Range);
     }
-    answers::fit(x as i64 % y as i64)
+    Ok(x.wrapping_rem(y))
 }
 
-pub fn plus(x: i32, y: i32) -> Value
-    ensures { told result ≡ within (x +ℤ y) }
+// By how many places a value is shifted.
+fn places(y: i32) -> Result<u32, Refusal>
+    ensures { Places y result }
 {
-    answers::fit(x as i64 + y as i64)
-}
-
-pub fn minus(x: i32, y: i32) -> Value
-    ensures { told result ≡ within (x -ℤ y) }
-{
-    answers::fit(x as i64 - y as i64)
+    if (0..32).contains(&y) {
+        Ok(y.unsigned_abs())
+    } else {
+        Err(Refusal::Range)
+    }
 }
 
 // Left shift multiplies.
-pub fn shift_left(x: i32, y: i32) -> Value
+pub fn shift_left(x: i32, y: i32) -> Result<i32, Refusal>
     ensures { told result ≡ shifted (λ m. x *ℤ pos m) y }
 {
-    if y < 0 {
-        return answers::outside();
-    }
-    if y > 31 {
-        return answers::outside();
-    }
-    answers::fit(x as i64 * (1i64 << y))
+    let n = places(y)?;
+    fit(i64::from(x) * (1i64 << n))
 }
 
 // Right shift rounds down.
-pub fn shift_right(x: i32, y: i32) -> Value
+pub fn shift_right(x: i32, y: i32) -> Result<i32, Refusal>
     ensures { told result ≡ shifted (λ m. shr_z x m) y }
 {
-    if y < 0 {
-        return answers::outside();
-    }
-    if y > 31 {
-        return answers::outside();
-    }
-    answers::plain(x >> y)
-}
-
-pub fn bit_and(x: i32, y: i32) -> Value
-    ensures { told result ≡ bitwise bit_and x y }
-{
-    answers::plain(x & y)
-}
-
-pub fn bit_xor(x: i32, y: i32) -> Value
-    ensures { told result ≡ bitwise bit_xor x y }
-{
-    answers::plain(x ^ y)
-}
-
-pub fn bit_or(x: i32, y: i32) -> Value
-    ensures { told result ≡ bitwise bit_or x y }
-{
-    answers::plain(x | y)
-}
-
-// Whether two values are equal.
-pub fn same(x: i32, y: i32) -> bool
-    ensures { result ≡ equal x y }
-{
-    x == y
-}
-
-// Whether a value is 0.
-pub fn zero(x: i32) -> bool
-    ensures { result ≡ is_zero x }
-{
-    x == 0
+    let n = places(y)?;
+    Ok(x >> n)
 }

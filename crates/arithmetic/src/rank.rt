@@ -5,7 +5,7 @@ ghost use Rattle.arithmetic.specs.Told.{rank_number};
 
 use syntax_kind::number::Kind;
 
-// The rank of a kind, counted from 1, the loosest; 0: it is no binary operator.
+// The rank of a kind, counted from 1, the loosest; 0: it is no binary operator. A reader asks for a rank above one that it has, so 0 needs no case of its own.
 pub fn rank(kind: u8) -> u32
     ensures { result ≡ rank_number (binary kind) }
 {

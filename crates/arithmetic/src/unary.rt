@@ -1,10 +1,8 @@
 // The unary signs: + - ~ !
-ghost use Rattle.std.specs.Prelude.{◌≡◌, neg_ℤ};
+ghost use Rattle.std.specs.Prelude.{◌≡◌};
 ghost use Rattle.definition.specs.Condition.Operators.{unary};
-ghost use Rattle.definition.specs.Condition.Value as outcome;
 ghost use Rattle.arithmetic.specs.Told.{told, signed_by, is_unary};
 
-use crate::{Value, answers, integer};
 use syntax_kind::number::Kind;
 use text::refusal::Refusal;
 
@@ -12,40 +10,19 @@ use text::refusal::Refusal;
 pub fn is_sign(kind: u8) -> bool
     ensures { result ≡ is_unary (unary kind) }
 {
-    match kind {
-        Kind::PLUS => true,
-        Kind::DASH => true,
-        Kind::TILDE => true,
-        Kind::BANG => true,
-        _ => false,
-    }
-}
-
-fn negated(x: i32) -> Value
-    ensures { told result ≡ outcome.within (neg_ℤ x) }
-{
-    answers::fit(-(x as i64))
-}
-
-// Each bit turned round.
-fn flipped(x: i32) -> Value
-    ensures { told result ≡ outcome.value (outcome.flipped x) }
-{
-    answers::plain(!x)
+    matches!(kind, Kind::PLUS | Kind::DASH | Kind::TILDE | Kind::BANG)
 }
 
 // What the sign of a kind makes of its operand.
-pub fn sign(kind: u8, a: Value) -> Value
+pub fn sign(kind: u8, a: Result<i32, Refusal>) -> Result<i32, Refusal>
     ensures { told result ≡ signed_by kind (told a) }
 {
-    if a.refusal != Refusal::NONE {
-        return a;
-    }
+    let x = a?;
     match kind {
-        Kind::PLUS => answers::plain(a.value),
-        Kind::DASH => negated(a.value),
-        Kind::TILDE => flipped(a.value),
-        Kind::BANG => answers::truth(integer::zero(a.value)),
-        _ => answers::no_expression(),
+        Kind::PLUS => Ok(x),
+        Kind::DASH => x.checked_neg().ok_or(Refusal::Range),
+        Kind::TILDE => Ok(!x),
+        Kind::BANG => Ok(i32::from(x == 0)),
+        _ => Err(Refusal::Expression),
     }
 }

@@ -1,45 +1,38 @@
 -- Signs, brackets and operators: what the readers that call each other get.
-use Rattle.std.specs.Prelude.{if◌then◌else◌}
-use Prim.Native.Nat.{ℕ, suc, ◌+◌, ◌-◌, ◌≤◌, ◌<◌}
+use Rattle.std.specs.Prelude.{if◌then◌else◌, Result, Some, None}
+use Rattle.std.specs.Prelude as options
+use Prim.Native.Nat.{ℕ, suc, ◌-◌, ◌≤◌, ◌<◌}
 use mathlib.Core.Path.{◌≡◌, refl, sym, ap, ◌∙◌}
-use mathlib.Core.Bool.{Bool, true, false, not, false≢true}
+use mathlib.Core.Bool.{Bool, true, false, false≢true}
 use mathlib.Core.List.{List, [], ◌∷◌}
 use mathlib.Core.Option.{Option, none, some}
 use native.Mathlib.Omega.{arith}
-use borrow.Author.Tests.{eq-eqb, ne_eqb, eqb-true, eqb-false, le-leb, lt-leb, not-true, not-false}
-use lib.Dec.{eqb, leb}
+use borrow.Author.Tests.{eq-eqb, ne_eqb, eqb-true, eqb-false, le-leb, lt-leb}
+use lib.Dec.{eqb}
 use lib.ListN.{length}
 use Rattle.definition.specs.SyntaxKind.{Kind}
 use Rattle.definition.specs.Tree.{Leaf}
 use Rattle.definition.specs.Parser.{is, peek}
 use Rattle.definition.specs.Condition.Value.{Outcome}
 use Rattle.definition.specs.Condition.Operators.{Binary, Unary, binaries, unaries, lookup, binary, unary}
-use Rattle.definition.specs.Condition.Meaning.{after, joins}
+use Rattle.definition.specs.Condition.Meaning.{after}
 use Rattle.definition.specs.Condition.Reader.{Maker, Got, got, nothing, ◌▸◌, Begin, digits, ident, asks, opens, other, signs, begin, over, goes_on, closed}
 use Rattle.theorems.specs.Climbing.{operand_of, climb_of, expression_of}
 use Rattle.theorems.proofs.Condition.Cases.{begin_sign, begin_opens, Begins, b_digits, b_ident, b_asks, b_opens, b_other, b_signs, begins}
-use Rattle.theorems.proofs.Condition.Sound.{Each, not_got, that}
+use Rattle.theorems.proofs.Condition.Sound.{Each, that}
 use Rattle.theorems.proofs.Condition.Equations.{Takes, short, short_expression, at_number, at_name, at_defined, at_other, at_sign, too_deep_sign, too_deep_open, at_open, at_stop, at_operator, nothing_left, nothing_ahead}
-use Rattle.arithmetic.specs.declared.Value.{Value}
+use lib.IntN.{ℤ}
+use Rattle.text.specs.declared.refusal.Refusal.{Refusal}
 use Rattle.arithmetic.specs.Told.{told, joined, signed_by, binary_of, unary_of, rank_number, is_unary}
 use Rattle.parser.specs.declared.Seen.{Seen}
 use Rattle.parser.specs.Rest.{leaf_seen}
 use Rattle.condition.specs.declared.Step.{Step}
-use Rattle.condition.specs.Steps.{left, Stands, Follows, worth, step_of, not_read, told_step, Gets, Signs, Joins, simple, shut}
+use Rattle.condition.specs.Steps.{left, Stands, Follows, worth, told_step, Gets, simple, shut}
 use Rattle.condition.proofs.Standing.{left_none, left_leaf, left_kind, left_next, fewer_left}
-use Rattle.condition.proofs.Getting.{gets_nothing, gets_got}
-
--- What a step tells, by whether it was read.
-told_read : (src : List ℕ) (a : Step) → a.read ≡ true → told_step src a ≡ got (told a.value) (left src a.next)
-unfolding told_step
-told_read src a e = rw e
-
-told_not : (src : List ℕ) (a : Step) → not a.read ≡ true → told_step src a ≡ nothing
-unfolding told_step
-told_not src a e = rw (not-true a.read e)
+use Rattle.condition.proofs.Getting.{step, gets_nothing, gets_got}
 
 -- The same outcome of another reader.
-gets_is : {src : List ℕ} {g h : Got Outcome} {r : Step} → h ≡ g → Gets src g r → Gets src h r
+gets_is : {src : List ℕ} {g h : Got Outcome} {r : options.Option Step} → h ≡ g → Gets src g r → Gets src h r
 gets_is q x = record { is = x.is ∙ sym q; stands = x.stands }
 
 -- The end of a bracket.
@@ -48,19 +41,22 @@ unfolding shut peek
 shut_not o [] e = refl
 shut_not o (c ∷ R) e = rw (e, shut)
 
-module _ (src : List ℕ) (a : Step) (s : Stands src a.next) where
-  pub closed_none : not a.read ≡ true → {r : Step} → not_read a.next r → Gets src (told_step src a ▸ shut) r
+-- What a bracket holds, and its end.
+module _ (src : List ℕ) {g : Got Outcome} where
+  pub nothing_held : Gets src g None → Gets src (g ▸ shut) None
   unfolding ◌▸◌
-  closed_none e n = gets_nothing s n (rw (told_not src a e))
+  nothing_held x = gets_nothing (ap (λ y. y ▸ shut) (sym x.is))
 
-  module _ (e : not a.read ≡ false) where
-    pub closed_other : (a.next.kind ≡ Kind.RPAREN → ⊥) → {r : Step} → not_read a.next r → Gets src (told_step src a ▸ shut) r
+  module _ (a : Step) (x : Gets src g (Some a)) where
+    pub unclosed : eqb a.next.kind Kind.RPAREN ≡ false → Gets src (g ▸ shut) None
     unfolding ◌▸◌
-    closed_other k n = gets_nothing s n (rw (told_read src a (not-false a.read e)) (shut_not (told a.value) (left src a.next) (left_kind src a.next s Kind.RPAREN (λ z. omega arith) ∙ ne_eqb _ _ k)))
+    unclosed k =
+        gets_nothing (ap (λ y. y ▸ shut) (sym x.is) ∙ shut_not (told a.value) (left src a.next) (left_kind src a.next x.stands Kind.RPAREN (λ z. omega arith) ∙ k))
 
-    pub closed_here : a.next.kind ≡ Kind.RPAREN → (n : Seen) → Follows src a.next.end a.next.angle n → {r : Step} → r ≡ step_of a.value n → Gets src (told_step src a ▸ shut) r
+    pub closed_here : a.next.kind ≡ Kind.RPAREN → (n : Seen) → Follows src a.next.end a.next.angle n → Gets src (g ▸ shut) (Some (step n a.value))
     unfolding ◌▸◌ shut
-    closed_here k n f q = gets_got f.stands q refl (rw (told_read src a (not-false a.read e), left_next src a.next s n f (λ z. omega (arith, k, z)), eq-eqb _ _ k, shut))
+    closed_here k n f =
+        gets_got f.stands refl (ap (λ y. y ▸ shut) (sym x.is) ∙ rw (left_next src a.next x.stands n f (λ z. omega (arith, k, z)), eq-eqb _ _ k, shut))
 
 -- A bracket's end gives what it holds.
 closed_shut : (list text : List ℕ) (a : Outcome) (L : List Leaf) → closed (worth list text) a L ≡ shut a L
@@ -72,10 +68,6 @@ shut_after : (list text : List ℕ) (g : Got Outcome) → (g ▸ (λ a M. closed
 unfolding ◌▸◌
 shut_after list text nothing = refl
 shut_after list text (got a R) = closed_shut list text a R
-
--- What a bracket holds, and its end.
-pub closes : {src : List ℕ} {g : Got Outcome} {a r : Step} → Gets src g a → Gets src (told_step src a ▸ shut) r → Gets src (g ▸ shut) r
-closes x y = gets_is (ap (λ y. y ▸ shut) (sym x.is)) y
 
 -- A sign of the definition, by its kind.
 pub data SignOf (k : ℕ) : Type 0 where
@@ -104,14 +96,9 @@ module _ (src : List ℕ) (x : Seen) (s : Stands src x) (n : Seen) (f : Follows 
   pub open_fewer : x.kind ≡ Kind.LPAREN → length (left src n) < length (left src x)
   open_fewer k = fewer_left src x s n f (some_open x k)
 
-after_sign : (src : List ℕ) (a r : Step) {k : ℕ} {o : Unary} → unary k ≡ some o → Signs k a r → told_step src r ≡ told_step src a ▸ (λ y M. got (after y o.does) M)
-unfolding told_step ◌▸◌ unary_of
-after_sign src a r {o = o} q h = rw (h.read_is, h.next_is, h.value_is, q) (by a.read)
-  where
-    by : (b : Bool) → (if b then got (after (told a.value) o.does) (left src a.next) else nothing)
-        ≡ (if b then got (told a.value) (left src a.next) else nothing) ▸ (λ y M. got (after y o.does) M)
-    by true = refl
-    by false = refl
+after_sign : (o : Unary) (k : ℕ) (g : Outcome) → unary k ≡ some o → signed_by k g ≡ after g o.does
+unfolding unary_of
+after_sign o k g q = rw q refl
 
 -- An operand without signs and brackets, by its first leaf.
 unfoldable signed_leaf : Leaf → Bool
@@ -147,26 +134,35 @@ module _ (src list text : List ℕ) (x : Seen) (s : Stands src x) (d : ℕ) wher
       here : x.kind ≡ 0 → ⊥
       here = some_sign x.kind b w e
 
-      pub sign_too_deep : d ≡ 0 → {r : Step} → not_read x r → Gets src (made d (left src x)) r
-      sign_too_deep z {r} n = go (sign_kind x.kind (sym w ∙ e))
+      pub sign_too_deep : d ≡ 0 → Gets src (made d (left src x)) None
+      sign_too_deep z = go (sign_kind x.kind (sym w ∙ e))
         where
-          go : SignOf x.kind → Gets src (made d (left src x)) r
-          go (sign_of q) = gets_nothing s n (rw (z, left_leaf src x s here) (too_deep_sign (worth list text) d (leaf_seen src x) _ (begin_sign (leaf_seen src x) q)))
+          go : SignOf x.kind → Gets src (made d (left src x)) None
+          go (sign_of q) = gets_nothing (rw (z, left_leaf src x s here) (too_deep_sign (worth list text) d (leaf_seen src x) _ (begin_sign (leaf_seen src x) q)))
 
       module _ (z : d ≡ 0 → ⊥) (n : Seen) (f : Follows src x.end x.angle n) where
-        pub signs_operand : (a r : Step) → Gets src (made (d - 1) (left src n)) a → Signs x.kind a r → Gets src (made d (left src x)) r
-        signs_operand a r g h = go (sign_kind x.kind (sym w ∙ e))
+        operand_is : {o : Unary} → unary x.kind ≡ some o → made (d - 1) (left src n) ▸ (λ y M. got (after y o.does) M) ≡ made d (left src x)
+        operand_is {o} q =
+            sym (ap (made d) (left_next src x s n f here) ∙ ap (λ m. made m (leaf_seen src x ∷ left src n)) (one_more z) ∙ at_sign (worth list text) (d - 1) (leaf_seen src x) (left src n) (begin_sign (leaf_seen src x) q))
+
+        pub signs_nothing : Gets src (made (d - 1) (left src n)) None → Gets src (made d (left src x)) None
+        unfolding ◌▸◌
+        signs_nothing g = go (sign_kind x.kind (sym w ∙ e))
           where
-            go : SignOf x.kind → Gets src (made d (left src x)) r
-            go (sign_of {o} q) = record {
-              is = after_sign src a r q h ∙ ap (λ y. y ▸ (λ y M. got (after y o.does) M)) g.is
-                  ∙ sym (ap (made d) (left_next src x s n f here) ∙ ap (λ m. made m (leaf_seen src x ∷ left src n)) (one_more z) ∙ at_sign (worth list text) (d - 1) (leaf_seen src x) (left src n) (begin_sign (leaf_seen src x) q));
-              stands = rw h.next_is g.stands;
-            }
+            go : SignOf x.kind → Gets src (made d (left src x)) None
+            go (sign_of {o} q) = gets_nothing (sym (ap (λ y. y ▸ (λ y M. got (after y o.does) M)) g.is ∙ operand_is q))
+
+        pub signs_operand : (a : Step) (v : Result ℤ Refusal) → Gets src (made (d - 1) (left src n)) (Some a) → told v ≡ signed_by x.kind (told a.value) → Gets src (made d (left src x)) (Some (step a.next v))
+        unfolding ◌▸◌
+        signs_operand a v g h = go (sign_kind x.kind (sym w ∙ e))
+          where
+            go : SignOf x.kind → Gets src (made d (left src x)) (Some (step a.next v))
+            go (sign_of {o} q) =
+                gets_got g.stands (h ∙ after_sign o x.kind (told a.value) q) (sym (ap (λ y. y ▸ (λ y M. got (after y o.does) M)) g.is ∙ operand_is q))
 
     module _ (e : b ≡ false) where
       -- Neither a sign nor a bracket: an operand without them.
-      pub operand_simple : (x.kind ≡ Kind.LPAREN → ⊥) → {r : Step} → Gets src (simple (worth list text) (left src x)) r → Gets src (made d (left src x)) r
+      pub operand_simple : (x.kind ≡ Kind.LPAREN → ⊥) → {r : options.Option Step} → Gets src (simple (worth list text) (left src x)) r → Gets src (made d (left src x)) r
       unfolding peek signed_leaf
       operand_simple k g = gets_is (simple_operand list text d (left src x) (left_kind src x s Kind.LPAREN (λ z. omega arith) ∙ ne_eqb _ _ k) (by (eqb x.kind 0) refl)) g
         where
@@ -176,12 +172,12 @@ module _ (src list text : List ℕ) (x : Seen) (s : Stands src x) (d : ℕ) wher
 
   -- A bracket.
   module _ (k : x.kind ≡ Kind.LPAREN) where
-    pub open_too_deep : d ≡ 0 → {r : Step} → not_read x r → Gets src (made d (left src x)) r
-    open_too_deep z n =
-        gets_nothing s n (rw (z, left_leaf src x s (some_open x k)) (too_deep_open (worth list text) d (leaf_seen src x) _ (begin_opens (leaf_seen src x) (eq-eqb _ _ k))))
+    pub open_too_deep : d ≡ 0 → Gets src (made d (left src x)) None
+    open_too_deep z =
+        gets_nothing (rw (z, left_leaf src x s (some_open x k)) (too_deep_open (worth list text) d (leaf_seen src x) _ (begin_opens (leaf_seen src x) (eq-eqb _ _ k))))
 
     module _ (z : d ≡ 0 → ⊥) (n : Seen) (f : Follows src x.end x.angle n) where
-      pub opens_bracket : {r : Step} → Gets src (expression_of (worth list text) (d - 1) 0 (left src n) ▸ shut) r → Gets src (made d (left src x)) r
+      pub opens_bracket : {r : options.Option Step} → Gets src (expression_of (worth list text) (d - 1) 0 (left src n) ▸ shut) r → Gets src (made d (left src x)) r
       opens_bracket g =
           gets_is (ap (made d) (left_next src x s n f (some_open x k)) ∙ ap (λ m. made m (leaf_seen src x ∷ left src n)) (one_more z)
           ∙ at_open (worth list text) (d - 1) (leaf_seen src x) (left src n) (begin_opens (leaf_seen src x) (eq-eqb _ _ k)) ∙ shut_after list text _) g
@@ -219,12 +215,11 @@ climbing src list text d r a = climb_of (worth list text) d r (told a.value) (le
 
 -- Where the loop over operators stands: it began behind the first operand, at a₀.
 pub record Climbs (src list text : List ℕ) (d r : ℕ) (a₀ a : Step) : Type 0 where
-  pub read : a.read ≡ true
   pub same : climbing src list text d r a ≡ climbing src list text d r a₀
   pub stands : Stands src a.next
   pub fewer : length (left src a.next) ≤ length (left src a₀.next)
 
-module _ (src list text : List ℕ) (x : Seen) (d r : ℕ) (a₀ : Step) (g₀ : Gets src (operand_of (worth list text) d (left src x)) a₀) where
+module _ (src list text : List ℕ) (x : Seen) (d r : ℕ) where
   abbrev W : Maker Outcome
   W = worth list text
 
@@ -232,13 +227,13 @@ module _ (src list text : List ℕ) (x : Seen) (d r : ℕ) (a₀ : Step) (g₀ :
   wanted = expression_of W d r (left src x)
 
   -- No operand was read.
-  pub not_begun : not a₀.read ≡ true → Gets src wanted a₀
+  pub not_begun : Gets src (operand_of (worth list text) d (left src x)) None → Gets src wanted None
   unfolding expression_of ◌▸◌
-  not_begun e = record { is = told_not src a₀ e ∙ rw (sym g₀.is ∙ told_not src a₀ e) refl; stands = g₀.stands }
+  not_begun g = gets_nothing (rw (sym g.is) refl)
 
-  module _ (e₀ : not a₀.read ≡ false) where
+  module _ (a₀ : Step) (g₀ : Gets src (operand_of (worth list text) d (left src x)) (Some a₀)) where
     told_first : operand_of W d (left src x) ≡ got (told a₀.value) (left src a₀.next)
-    told_first = sym g₀.is ∙ told_read src a₀ (not-false a₀.read e₀)
+    told_first = sym g₀.is
 
     first_fewer : length (left src a₀.next) < length (left src x)
     unfolding operand_of
@@ -248,16 +243,13 @@ module _ (src list text : List ℕ) (x : Seen) (d r : ℕ) (a₀ : Step) (g₀ :
     unfolding expression_of ◌▸◌
     from_first = rw told_first refl
 
-    pub begun : Climbs src list text d r a₀ a₀
-    begun = record { read = not-false a₀.read e₀; same = refl; stands = g₀.stands; fewer = omega arith }
-
     module _ (a : Step) (i : Climbs src list text d r a₀ a) (above : ℕ) (w : above ≡ rank_number (binary a.next.kind)) where
       abbrev t : Seen
       t = a.next
 
       -- No operator of this rank goes on.
-      pub climbed : above ≤ r → Gets src wanted a
-      climbed h = record { is = told_read src a i.read ∙ sym (by (eqb t.kind 0) refl) ∙ i.same ∙ from_first; stands = i.stands }
+      pub climbed : above ≤ r → Gets src wanted (Some a)
+      climbed h = record { is = sym (by (eqb t.kind 0) refl) ∙ i.same ∙ from_first; stands = i.stands }
         where
           by : (b : Bool) → eqb t.kind 0 ≡ b → climbing src list text d r a ≡ got (told a.value) (left src t)
           by true z = rw (left_none src t i.stands (eqb-true _ _ z)) (nothing_ahead W d r (told a.value))
@@ -272,7 +264,7 @@ module _ (src list text : List ℕ) (x : Seen) (d r : ℕ) (a₀ : Step) (g₀ :
         pub climb_fewer : length (left src n) < length (left src x)
         climb_fewer = omega (arith, first_fewer, i.fewer, fewer_left src t i.stands n f some_operator)
 
-        module _ (b : Step) (g : Gets src (expression_of W d above (left src n)) b) where
+        module _ {b : options.Option Step} (g : Gets src (expression_of W d above (left src n)) b) where
           onward : {o : Binary} → binary t.kind ≡ some o → above ≡ suc o.rank
               → told_step src b ▸ (λ y N. climb_of W d r (joined t.kind (told a.value) y) N) ≡ climbing src list text d r a₀
           unfolding over binary_of
@@ -282,30 +274,26 @@ module _ (src list text : List ℕ) (x : Seen) (d r : ℕ) (a₀ : Step) (g₀ :
               rw (g.is, q, e)
               (sym (at_operator W d r (told a.value) (leaf_seen src t) (left src n) p) ∙ ap (climb_of W d r (told a.value)) (sym (left_next src t i.stands n f some_operator)) ∙ i.same)
 
-          pub not_joined : not b.read ≡ true → Gets src wanted b
+        pub not_joined : Gets src (expression_of W d above (left src n)) None → Gets src wanted None
+        unfolding ◌▸◌
+        not_joined g = go (operator_kind t.kind r above w h)
+          where
+            go : Ranks t.kind above → Gets src wanted None
+            go (ranks p q) = record { is = onward g p q ∙ from_first; stands = tt }
+
+        module _ (b : Step) (g : Gets src (expression_of W d above (left src n)) (Some b)) (v : Result ℤ Refusal) (j : told v ≡ joined t.kind (told a.value) (told b.value)) where
+          pub nearer : length (left src b.next) < length (left src t)
+          nearer =
+              let l = got_fewer (short_expression W d above (left src n)) (sym g.is) in
+              omega (arith, l, fewer_left src t i.stands n f some_operator)
+
+          pub climbs_on : Climbs src list text d r a₀ (step b.next v)
           unfolding ◌▸◌
-          not_joined e = go (operator_kind t.kind r above w h)
+          climbs_on = go (operator_kind t.kind r above w h)
             where
-              go : Ranks t.kind above → Gets src wanted b
-              go (ranks p q) = record { is = told_not src b e ∙ rw (told_not src b e) at (onward p q) ∙ from_first; stands = g.stands }
-
-          module _ (e : not b.read ≡ false) (c : Step) (j : Joins t.kind a b c) where
-            told_right : told_step src b ≡ got (told b.value) (left src b.next)
-            told_right = told_read src b (not-false b.read e)
-
-            pub nearer : length (left src c.next) < length (left src t)
-            nearer =
-                let l = got_fewer (short_expression W d above (left src n)) (sym g.is ∙ told_right) in
-                rw j.next_is (omega (arith, l, fewer_left src t i.stands n f some_operator))
-
-            pub climbs_on : Climbs src list text d r a₀ c
-            unfolding ◌▸◌
-            climbs_on = go (operator_kind t.kind r above w h)
-              where
-                go : Ranks t.kind above → Climbs src list text d r a₀ c
-                go (ranks p q) = record {
-                  read = j.read_is;
-                  same = rw (j.value_is, j.next_is) (rw told_right at (onward p q));
-                  stands = rw j.next_is g.stands;
-                  fewer = omega (arith, nearer, i.fewer);
-                }
+              go : Ranks t.kind above → Climbs src list text d r a₀ (step b.next v)
+              go (ranks p q) = record {
+                same = ap (λ o. climb_of W d r o (left src b.next)) j ∙ onward g p q;
+                stands = g.stands;
+                fewer = omega (arith, nearer, i.fewer);
+              }

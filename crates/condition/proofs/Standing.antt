@@ -4,10 +4,9 @@ use mathlib.Core.Path.{◌≡◌, refl, sym, ap, ◌∙◌}
 use mathlib.Core.Bool.{Bool, true, false}
 use mathlib.Core.List.{List, [], ◌∷◌}
 use native.Mathlib.Omega.{arith}
-use borrow.Author.Tests.{eq-eqb, ne_eqb, eqb-true, eqb-false}
+use borrow.Author.Tests.{ne_eqb, eqb-true, eqb-false}
 use lib.Dec.{eqb}
 use lib.ListN.{length}
-use Rattle.definition.specs.Tree.{Leaf}
 use Rattle.definition.specs.Parser.{is, trivia, peek}
 use Rattle.definition.specs.Condition.Expression.{solid}
 use Rattle.theorems.specs.LeavesFrom.{leaves_from}
@@ -18,12 +17,7 @@ use Rattle.parser.specs.declared.trivia.Trivia.{Trivia}
 use Rattle.parser.specs.Rest.{leaf_seen, unread}
 use Rattle.parser.specs.Passed.{Behind}
 use Rattle.parser.proofs.Taking.{none_seen, one_seen, trivia_tested, peeked}
-use Rattle.condition.specs.Steps.{left, Stands, Standing, Follows}
-use Rattle.syntax_kind.specs.declared.kind.SyntaxKind.{SyntaxKind}
-
--- What a reader asks, at another leaf.
-pub standing_at : {src : List ℕ} {classes : List SyntaxKind} {x y : Seen} → Standing src classes x → Stands src y → Standing src classes y
-standing_at h s = record { table = h.table; short = h.short; stands = s }
+use Rattle.condition.specs.Steps.{left, Stands, Follows}
 
 -- The leaf behind trivia.
 pub follows : (src : List ℕ) (at : ℕ) (angle : Bool) (t : Trivia) → Behind src at angle t → Follows src at angle t.next

@@ -1,121 +1,86 @@
 // Expression, unary and bracket readers, which call each other: brackets hold expressions that hold brackets again. The leaves that remain and the
 // levels that may still be opened fall.
-ghost use Rattle.std.specs.Prelude.{◌≡◌, ◌≤◌, length};
-ghost use Rattle.definition.specs.Calls.{longest_source};
+ghost use Rattle.std.specs.Prelude.{◌<◌};
+ghost use Rattle.std.specs.Option.{SomeIff};
+ghost use Rattle.definition.specs.Condition.Operators.{binary};
 ghost use Rattle.definition.specs.Condition.Reader.{◌▸◌};
 ghost use Rattle.theorems.specs.Climbing.{operand_of, expression_of};
-ghost use Rattle.pre.specs.Table.{class_table};
-ghost use Rattle.condition.specs.Steps.{Stands, Standing, worth, left, told_step, shut, Signs, Joins, Gets};
+ghost use Rattle.arithmetic.specs.Told.{rank_number};
+ghost use Rattle.condition.specs.Steps.{Stands, worth, left, shut, Gets};
 
-use crate::{Step, leaf, operand};
-use arithmetic::{binary, rank, unary as signs};
+use crate::{Reader, Step, leaf};
+use arithmetic::{binary as operators, rank, unary as signs};
 use parser::Seen;
 use syntax_kind::number::Kind;
 
-// A sign before what was read.
-fn signed(kind: u8, a: Step) -> Step
-    ensures { Signs kind a result }
+// The rank of the binary operator of a kind, if it is higher than this one.
+fn higher(kind: u8, rank: u32) -> Option<u32>
+    ensures { SomeIff result (rank < rank_number (binary kind)) (rank_number (binary kind)) }
 {
-    let next = a.next;
-    let value = signs::sign(kind, a.value);
-    Step {
-        next,
-        read: a.read,
-        value,
+    let above = rank::rank(kind);
+    if above <= rank {
+        return None;
     }
+    Some(above)
 }
 
-// A left side and a right side that was read.
-fn joined(kind: u8, a: Step, b: Step) -> Step
-    ensures { Joins kind a b result }
-{
-    let next = b.next;
-    let value = binary::join(kind, a.value, b.value);
-    Step {
-        next,
-        read: true,
-        value,
-    }
-}
-
-// The end of a bracket behind what was read.
-fn closed(src: &[u8], classes: &[u8; 256], a: Step) -> Step
-    requires { Standing src.now classes.now a.next }
-    ensures { Gets src.now (told_step src.now a ▸ shut) result }
-{
-    let c = a.next;
-    let value = a.value;
-    if !a.read {
-        return crate::nothing(c);
-    }
-    if c.kind != Kind::RPAREN {
-        return crate::nothing(c);
-    }
-    crate::got(value, leaf::next(src, classes, c))
-}
-
-// An operand with its signs and brackets.
-#[cycle(bracket_expression_unary)]
-fn unary(src: &[u8], classes: &[u8; 256], list: &[u32], text: &[u8], x: Seen, depth: u32) -> Step
-    requires { Standing src.now classes.now x }
-    ensures { Gets src.now (operand_of (worth list.now text.now) depth (left src.now x)) result }
-{
-    if signs::is_sign(x.kind) {
-        if depth == 0 {
-            return crate::nothing(x);
+impl<'a> Reader<'a> {
+    // An operand with its signs and brackets.
+    #[cycle(bracket_expression_unary)]
+    fn unary(&self, x: Seen, depth: u32) -> Option<Step>
+        requires { Stands self.now.src.now x }
+        ensures { Gets self.now.src.now (operand_of (worth self.now.list.now self.now.text.now) depth (left self.now.src.now x)) result }
+    {
+        if signs::is_sign(x.kind) {
+            if depth == 0 {
+                return None;
+            }
+            let y = self.next(x);
+            let a = self.unary(y, depth - 1)?;
+            return Some(Step {
+                next: a.next,
+                value: signs::sign(x.kind, a.value),
+            });
         }
-        let y = leaf::next(src, classes, x);
-        return signed(x.kind, unary(src, classes, list, text, y, depth - 1));
-    }
-    if x.kind == Kind::LPAREN {
-        if depth == 0 {
-            return crate::nothing(x);
+        if x.kind == Kind::LPAREN {
+            if depth == 0 {
+                return None;
+            }
+            let y = self.next(x);
+            return self.bracket(y, depth - 1);
         }
-        let y = leaf::next(src, classes, x);
-        return bracket(src, classes, list, text, y, depth - 1);
+        self.operand(x)
     }
-    operand::operand(src, classes, list, text, x)
-}
 
-// What a bracket holds, and its end.
-#[cycle(bracket_expression_unary)]
-fn bracket(src: &[u8], classes: &[u8; 256], list: &[u32], text: &[u8], x: Seen, depth: u32) -> Step
-    requires { Standing src.now classes.now x }
-    ensures { Gets src.now (expression_of (worth list.now text.now) depth 0 (left src.now x) ▸ shut) result }
-{
-    let a = expression(src, classes, list, text, x, depth, 0);
-    closed(src, classes, a)
-}
-
-// An expression whose operators outside brackets have this rank, counted from 0, or a higher one.
-#[cycle(bracket_expression_unary)]
-pub fn expression(
-    src: &[u8],
-    classes: &[u8; 256],
-    list: &[u32],
-    text: &[u8],
-    x: Seen,
-    depth: u32,
-    rank: u32,
-) -> Step
-    requires { Standing src.now classes.now x }
-    ensures { Gets src.now (expression_of (worth list.now text.now) depth rank (left src.now x)) result }
-{
-    let mut a = unary(src, classes, list, text, x, depth);
-    if !a.read {
-        return a;
+    // What a bracket holds, and its end.
+    #[cycle(bracket_expression_unary)]
+    fn bracket(&self, x: Seen, depth: u32) -> Option<Step>
+        requires { Stands self.now.src.now x }
+        ensures { Gets self.now.src.now (expression_of (worth self.now.list.now self.now.text.now) depth 0 (left self.now.src.now x) ▸ shut) result }
+    {
+        let a = self.expression(x, depth, 0)?;
+        if !leaf::is(a.next, Kind::RPAREN) {
+            return None;
+        }
+        let next = self.next(a.next);
+        Some(Step { next, ..a })
     }
-    loop {
-        let t = a.next;
-        let above = rank::rank(t.kind);
-        if above <= rank {
-            return a;
+
+    // An expression whose operators outside brackets have this rank, counted from 0, or a higher one.
+    #[cycle(bracket_expression_unary)]
+    pub fn expression(&self, x: Seen, depth: u32, rank: u32) -> Option<Step>
+        requires { Stands self.now.src.now x }
+        ensures { Gets self.now.src.now (expression_of (worth self.now.list.now self.now.text.now) depth rank (left self.now.src.now x)) result }
+    {
+        let mut a = self.unary(x, depth)?;
+        while let Some(above) = higher(a.next.kind, rank) {
+            let y = self.next(a.next);
+            let b = self.expression(y, depth, above)?;
+            a = Step {
+                next: b.next,
+                value: operators::join(a.next.kind, a.value, b.value),
+            };
         }
-        let y = leaf::next(src, classes, t);
-        let b = expression(src, classes, list, text, y, depth, above);
-        if !b.read {
-            return b;
-        }
-        a = joined(t.kind, a, b);
+        Some(a)
     }
 }

@@ -1,25 +1,40 @@
 // The leaves of an expression one by one, trivia passed over.
-ghost use Rattle.std.specs.Prelude.{◌≡◌, false, ◌≤◌, length};
-ghost use Rattle.definition.specs.Calls.{longest_source};
-ghost use Rattle.pre.specs.Table.{class_table};
+ghost use Rattle.std.specs.Prelude.{◌≡◌, false};
+ghost use Rattle.definition.specs.Text.{eqb};
+ghost use Rattle.parser.specs.Rest.{leaf_seen, Held};
 ghost use Rattle.condition.specs.Steps.{Follows};
 
+use crate::Reader;
 use parser::{Seen, trivia};
 
-// The first leaf.
-pub fn first(src: &[u8], classes: &[u8; 256]) -> Seen
-    requires { (classes.now ≡ class_table) × (length src.now ≤ longest_source) }
-    ensures { Follows src.now 0 false result }
+// Whether a leaf of a kind is seen.
+pub fn is(x: Seen, kind: u8) -> bool
+    ensures { result ≡ eqb x.kind kind }
 {
-    let t = trivia::behind(src, classes, 0, false);
-    t.next
+    x.kind == kind
 }
 
-// The leaf behind one that is seen.
-pub fn next(src: &[u8], classes: &[u8; 256], x: Seen) -> Seen
-    requires { (classes.now ≡ class_table) × (length src.now ≤ longest_source) }
-    ensures { Follows src.now x.end x.angle result }
-{
-    let t = trivia::behind(src, classes, x.end, x.angle);
-    t.next
+impl<'a> Reader<'a> {
+    // The first leaf.
+    pub fn first(&self) -> Seen
+        ensures { Follows self.now.src.now 0 false result }
+    {
+        trivia::behind(self.src, self.classes, 0, false).next
+    }
+
+    // The leaf behind one that is seen.
+    pub fn next(&self, x: Seen) -> Seen
+        ensures { Follows self.now.src.now x.end x.angle result }
+    {
+        trivia::behind(self.src, self.classes, x.end, x.angle).next
+    }
+
+    // The bytes of a leaf that is seen.
+    pub fn bytes(&self, x: Seen) -> &'a [u8]
+        requires held { Held self.now.src.now x }
+        requires some { x.kind ≡ 0 → ⊥ }
+        ensures { result.now ≡ (leaf_seen self.now.src.now x).bytes }
+    {
+        &self.src[x.start as usize..x.end as usize]
+    }
 }

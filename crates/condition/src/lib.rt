@@ -5,89 +5,69 @@ pub mod expression;
 pub mod leaf;
 pub mod operand;
 
-ghost use Rattle.std.specs.Prelude.{◌≡◌};
-ghost use Rattle.condition.specs.Steps.{step_of, not_read, finished};
+ghost use Rattle.std.specs.Prelude.{◌≡◌, ◌≤◌, length};
+ghost use Rattle.definition.specs.Calls.{longest_source};
+ghost use Rattle.definition.specs.Condition.Valuing.{valuing};
+ghost use Rattle.pre.specs.Table.{class_table};
+ghost use Rattle.arithmetic.specs.Told.{told};
 ghost use Rattle.condition.specs.Promise.{Values};
 
-use arithmetic::{Value, answers};
+use arithmetic::Value;
 use parser::Seen;
 use pre::class;
+use pre::class::Classes;
 use text::refusal::Refusal;
 use text::source;
 
 // How many brackets and unary signs may be open.
 const MOST_OPEN: u32 = 64;
 
-// What was read: whether it is an expression, what it comes to, and the leaf behind it.
+// The kind that is seen where no leaf is left.
+const END: u8 = 0;
+
+// A source that is read with the table of classes, and the list of names, which stand in the second text.
+#[derive(Clone, Copy)]
+pub struct Reader<'a> {
+    pub src: &'a [u8],
+    pub classes: &'a Classes,
+    pub list: &'a [u32],
+    pub text: &'a [u8],
+    ghost table: { classes.now ≡ class_table },
+    ghost short: { length src.now ≤ longest_source },
+}
+
+// An expression that was read: what it comes to, and the leaf behind it.
 #[derive(Clone, Copy)]
 pub struct Step {
     pub next: Seen,
-    pub read: bool,
-    pub value: Value,
+    pub value: Result<i32, Refusal>,
 }
 
-// An expression was read.
-fn got(value: Value, next: Seen) -> Step
-    ensures { result ≡ step_of value next }
+// What the source comes to; nothing may follow the expression.
+fn outcome(src: &[u8], list: &[u32], text: &[u8]) -> Result<i32, Refusal>
+    ensures { told result ≡ valuing src.now list.now text.now }
 {
-    Step {
-        next,
-        read: true,
-        value,
+    source::check(src)?;
+    let classes = class::class_table();
+    let reader = Reader {
+        src,
+        classes: &classes,
+        list,
+        text,
+    };
+    let x = reader.first();
+    let Some(a) = reader.expression(x, MOST_OPEN, 0) else {
+        return Err(Refusal::Expression);
+    };
+    if !leaf::is(a.next, END) {
+        return Err(Refusal::Expression);
     }
-}
-
-// None was read; the leaf is the one that is seen.
-fn nothing(x: Seen) -> Step
-    ensures { not_read x result }
-{
-    let value = answers::no_expression();
-    Step {
-        next: x,
-        read: false,
-        value,
-    }
-}
-
-// The answer of the call: nothing may follow the expression, and a refused value is 0.
-fn finish(a: Step) -> Value
-    ensures { result ≡ finished a }
-{
-    let x = a.next;
-    let v = a.value;
-    if !a.read {
-        return Value {
-            refusal: Refusal::EXPRESSION,
-            value: 0,
-        };
-    }
-    if x.kind != 0 {
-        return Value {
-            refusal: Refusal::EXPRESSION,
-            value: 0,
-        };
-    }
-    if v.refusal != Refusal::NONE {
-        return Value {
-            refusal: v.refusal,
-            value: 0,
-        };
-    }
-    v
+    a.value
 }
 
 // The value of an expression; names stand in the second text, by four numbers each.
 pub fn value(src: &[u8], list: &[u32], text: &[u8]) -> Value
     ensures { Values src.now list.now text.now result }
 {
-    let refused = source::refused(src);
-    if refused != Refusal::NONE {
-        return Value {
-            refusal: refused,
-            value: 0,
-        };
-    }
-    let classes = class::class_table();
-    let x = leaf::first(src, &classes);
-    finish(expression::expression(src, &classes, list, text, x, MOST_OPEN, 0))
+    outcome(src, list, text).into()
 }

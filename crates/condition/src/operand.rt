@@ -1,103 +1,94 @@
 // Operands without signs and brackets: literals, names, and `defined` with a name.
-ghost use Rattle.std.specs.Prelude.{◌≡◌};
+ghost use Rattle.std.specs.Prelude.{◌≡◌, Err, Decides};
+ghost use Rattle.text.specs.declared.refusal.Refusal.TheVariants.{Expression};
 ghost use Rattle.definition.specs.Condition.Expression.{word};
-ghost use Rattle.definition.specs.Condition.Meaning.{valued, listed};
+ghost use Rattle.definition.specs.Condition.Meaning.{listed};
 ghost use Rattle.definition.specs.Condition.Reader.{asked_in, asked};
 ghost use Rattle.arithmetic.specs.Told.{told};
-ghost use Rattle.literal.specs.Comes.{literal_comes};
 ghost use Rattle.parser.specs.Rest.{leaf_seen, Held};
-ghost use Rattle.condition.specs.Steps.{Standing, look_in, worth, left, numbered, simple, Gets};
+ghost use Rattle.condition.specs.Steps.{Stands, look_in, worth, left, numbered, simple, Gets};
 
-use crate::{Step, leaf};
-use arithmetic::Value;
+use crate::{Reader, Step, leaf};
 use parser::Seen;
 use syntax_kind::number::Kind;
 use text::refusal::Refusal;
 
-// The value of a DIGITS leaf.
-fn literal_value(src: &[u8], x: Seen) -> Value
-    requires { (Held src.now x) × (x.kind ≡ 0 → ⊥) }
-    ensures { told result ≡ literal_comes (word (leaf_seen src.now x)) }
+// Whether a literal was none.
+fn no_literal(value: Result<i32, Refusal>) -> bool
+    ensures { Decides result (value ≡ Err Expression) }
 {
-    let from = x.start as usize;
-    let to = x.end as usize;
-    literal::literal(&src[from..to])
+    matches!(value, Err(Refusal::Expression))
 }
 
-// The value of a name.
-fn name_value(src: &[u8], list: &[u32], text: &[u8], x: Seen) -> Value
-    requires { (Held src.now x) × (x.kind ≡ 0 → ⊥) }
-    ensures { told result ≡ valued (look_in list.now text.now (word (leaf_seen src.now x))) }
-{
-    let from = x.start as usize;
-    let to = x.end as usize;
-    names::value_of(list, text, &src[from..to])
-}
+impl<'a> Reader<'a> {
+    // Whether a name is in the list.
+    fn listed(&self, x: Seen) -> Result<i32, Refusal>
+        requires held { Held self.now.src.now x }
+        requires some { x.kind ≡ 0 → ⊥ }
+        ensures { told result ≡ listed (look_in self.now.list.now self.now.text.now (word (leaf_seen self.now.src.now x))) }
+    {
+        Ok(i32::from(names::is_listed(self.list, self.text, self.bytes(x))))
+    }
 
-// Whether a name is in the list.
-fn name_listed(src: &[u8], list: &[u32], text: &[u8], x: Seen) -> Value
-    requires { (Held src.now x) × (x.kind ≡ 0 → ⊥) }
-    ensures { told result ≡ listed (look_in list.now text.now (word (leaf_seen src.now x))) }
-{
-    let from = x.start as usize;
-    let to = x.end as usize;
-    names::is_listed(list, text, &src[from..to])
-}
+    // The name behind `defined (`, and the bracket's end.
+    fn defined_in(&self, x: Seen) -> Option<Step>
+        requires { Stands self.now.src.now x }
+        ensures { Gets self.now.src.now (asked_in (worth self.now.list.now self.now.text.now) (left self.now.src.now x)) result }
+    {
+        if !leaf::is(x, Kind::IDENT_KW) {
+            return None;
+        }
+        let c = self.next(x);
+        if !leaf::is(c, Kind::RPAREN) {
+            return None;
+        }
+        let value = self.listed(x);
+        let next = self.next(c);
+        Some(Step { next, value })
+    }
 
-// The name behind `defined (`, and the bracket's end.
-fn defined_in(src: &[u8], classes: &[u8; 256], list: &[u32], text: &[u8], x: Seen) -> Step
-    requires { Standing src.now classes.now x }
-    ensures { Gets src.now (asked_in (worth list.now text.now) (left src.now x)) result }
-{
-    if x.kind != Kind::IDENT_KW {
-        return crate::nothing(x);
+    // What is behind `defined`: a name, in brackets or not.
+    fn defined(&self, x: Seen) -> Option<Step>
+        requires { Stands self.now.src.now x }
+        ensures { Gets self.now.src.now (asked (worth self.now.list.now self.now.text.now) (left self.now.src.now x)) result }
+    {
+        match x.kind {
+            Kind::IDENT_KW => Some(Step {
+                next: self.next(x),
+                value: self.listed(x),
+            }),
+            Kind::LPAREN => self.defined_in(self.next(x)),
+            _ => None,
+        }
     }
-    let c = leaf::next(src, classes, x);
-    if c.kind != Kind::RPAREN {
-        return crate::nothing(x);
-    }
-    crate::got(name_listed(src, list, text, x), leaf::next(src, classes, c))
-}
 
-// What is behind `defined`: a name, in brackets or not.
-fn defined(src: &[u8], classes: &[u8; 256], list: &[u32], text: &[u8], x: Seen) -> Step
-    requires { Standing src.now classes.now x }
-    ensures { Gets src.now (asked (worth list.now text.now) (left src.now x)) result }
-{
-    if x.kind == Kind::IDENT_KW {
-        return crate::got(name_listed(src, list, text, x), leaf::next(src, classes, x));
+    // A DIGITS leaf, which must be a literal.
+    fn number(&self, x: Seen) -> Option<Step>
+        requires stands { Stands self.now.src.now x }
+        requires some { x.kind ≡ 0 → ⊥ }
+        ensures { Gets self.now.src.now (numbered (left self.now.src.now x)) result }
+    {
+        let value = literal::literal(self.bytes(x));
+        if no_literal(value) {
+            return None;
+        }
+        let next = self.next(x);
+        Some(Step { next, value })
     }
-    if x.kind == Kind::LPAREN {
-        return defined_in(src, classes, list, text, leaf::next(src, classes, x));
-    }
-    crate::nothing(x)
-}
 
-// A DIGITS leaf, which must be a literal.
-fn number(src: &[u8], classes: &[u8; 256], x: Seen) -> Step
-    requires { (Standing src.now classes.now x) × (x.kind ≡ 0 → ⊥) }
-    ensures { Gets src.now (numbered (left src.now x)) result }
-{
-    let v = literal_value(src, x);
-    if v.refusal == Refusal::EXPRESSION {
-        return crate::nothing(x);
+    // An operand without signs and brackets.
+    pub fn operand(&self, x: Seen) -> Option<Step>
+        requires { Stands self.now.src.now x }
+        ensures { Gets self.now.src.now (simple (worth self.now.list.now self.now.text.now) (left self.now.src.now x)) result }
+    {
+        match x.kind {
+            Kind::DIGITS => self.number(x),
+            Kind::IDENT_KW => Some(Step {
+                next: self.next(x),
+                value: names::value_of(self.list, self.text, self.bytes(x)),
+            }),
+            Kind::DEFINED => self.defined(self.next(x)),
+            _ => None,
+        }
     }
-    crate::got(v, leaf::next(src, classes, x))
-}
-
-// An operand without signs and brackets.
-pub fn operand(src: &[u8], classes: &[u8; 256], list: &[u32], text: &[u8], x: Seen) -> Step
-    requires { Standing src.now classes.now x }
-    ensures { Gets src.now (simple (worth list.now text.now) (left src.now x)) result }
-{
-    if x.kind == Kind::DIGITS {
-        return number(src, classes, x);
-    }
-    if x.kind == Kind::IDENT_KW {
-        return crate::got(name_value(src, list, text, x), leaf::next(src, classes, x));
-    }
-    if x.kind == Kind::DEFINED {
-        return defined(src, classes, list, text, leaf::next(src, classes, x));
-    }
-    crate::nothing(x)
 }

@@ -1,15 +1,12 @@
 -- Reading digits from a place of a text on, with a number that does not grow beyond the cap.
-use Prim.Native.Nat.{ℕ, zero, suc, ◌+◌, ◌-◌, ◌*◌, ◌^◌, ◌≤◌, ◌<◌}
-use native.Mathlib.Nat.{mul-le-mul}
+use Prim.Native.Nat.{ℕ, zero, suc, ◌+◌, ◌*◌, ◌^◌, ◌≤◌, ◌<◌}
 use native.Mathlib.Omega.{arith}
 use mathlib.Core.Path.{◌≡◌, refl, sym, ap, ◌∙◌}
-use mathlib.Core.List.{List, [], ◌∷◌}
+use mathlib.Core.List.{List, ◌∷◌}
 use mathlib.Core.Option.{Option, none, some}
 use lib.ListN.{length, drop, get_or}
 use lib.IntN.{pos}
 use borrow.Author.Tests.{lt-ltb, le-ltb}
-use mir.Syntax.{w64}
-use mir.Val.{Fits, SFits}
 use Rattle.definition.specs.Unescaped.{unescaped}
 use Rattle.definition.specs.Condition.Value.{Outcome, within}
 use Rattle.definition.specs.Condition.Literal.{digit_value, digits, number_of}
@@ -52,20 +49,11 @@ module _ (text : List ℕ) (at base i : ℕ) (k : Skips text at i) where
   unfolding number_of
   start h = record { small = omega arith; is = rw (k.rest, k.stands h); stands = k.stands }
 
-pub nearer : (text : List ℕ) (i j : ℕ) → i < length text → Skips text (i + 1) j → length text - j < length text - i
-nearer text i j h s = let o = s.on in omega arith
-
 -- The digits end, or one more byte is tested and counted.
 module _ (text : List ℕ) (at base i n : ℕ) (k : Reading text at base i n) where
   pub done : (o : Outcome) → o ≡ within (pos n) → length text ≤ i → o ≡ number_comes base (unescaped (drop at text))
   unfolding digits comes
   done o e h = rw (e, k.is, nothing_past text i h)
-
-  pub no_overflow : base ≤ 16 → Fits w64 (n * base)
-  no_overflow b = record { fits = omega (arith, mul-le-mul k.small b) }
-
-  pub casts : SFits w64 (pos n)
-  casts = let h = k.small in record { sfits = omega arith }
 
   module _ (d : ℕ) (h : i < length text) (e : d ≡ digit_value (get_or text i 0)) where
     pub no_digit_here : (o : Outcome) → o ≡ no_expression → base ≤ d → o ≡ number_comes base (unescaped (drop at text))
@@ -73,9 +61,6 @@ module _ (text : List ℕ) (at base i n : ℕ) (k : Reading text at base i n) wh
     no_digit_here o q l = rw (q, k.is, k.stands h, ← e, le-ltb d base l)
 
     module _ (l : d < base) where
-      pub fits : base ≤ 16 → Fits w64 (n * base + d)
-      fits b = record { fits = omega (arith, mul-le-mul k.small b) }
-
       pub more : (m j : ℕ) → 0 < base → m ≡ cap (n * base + d) → Skips text (i + 1) j → Reading text at base j m
       unfolding digits
       more m j b q s = record {

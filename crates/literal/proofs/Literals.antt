@@ -1,7 +1,9 @@
 -- What kind of literal a text is, by its first two bytes.
 use Prim.Native.Nat.{ℕ, ◌+◌, ◌≤◌, ◌<◌}
 use mathlib.Core.Path.{◌≡◌, refl, ap, ◌∙◌}
-use mathlib.Core.Bool.{Bool, true, false}
+use mathlib.Core.Bool.{true, ◌||◌}
+use mathlib.Core.Logic.{◌⊎◌, inl, inr}
+use lib.Dec.{eqb}
 use mathlib.Core.List.{List, [], ◌∷◌}
 use lib.ListN.{length, drop, get_or}
 use lib.IntN.{pos}
@@ -13,7 +15,12 @@ use Rattle.definition.specs.Condition.Literal.{digit_value, digits, number_of, l
 use Rattle.definition.specs.Condition.Valuing.{no_expression}
 use Rattle.unescaped.specs.Skips.{Skips}
 use Rattle.unescaped.proofs.Continuations.{nothing_past}
-use Rattle.literal.specs.Comes.{is_x, comes, number_comes, literal_comes}
+use Rattle.literal.specs.Comes.{comes, number_comes, literal_comes}
+
+-- What marks a hexadecimal literal.
+marks : (b : ℕ) → (b ≡ byte "X") ⊎ (b ≡ byte "x") → eqb b (byte "x") || eqb b (byte "X") ≡ true
+marks b (inl e) = rw e refl
+marks b (inr e) = rw e refl
 
 -- A literal that does not begin with 0 is decimal, whatever its length.
 not_zero : (b : ℕ) (bs : List ℕ) → (b ≡ byte "0" → ⊥) → number_of 10 (b ∷ bs) ≡ literal (b ∷ bs)
@@ -37,11 +44,11 @@ module _ (text : List ℕ) (a : ℕ) (k : Skips text 0 a) (o : Outcome) where
       unfolding literal comes number_of digits digit_value within
       zero_alone e m = rw (e, k.rest, k.stands h, z, l.rest, nothing_past text b m)
 
-      module _ (x : Bool) (m : b < length text) (y : x ≡ is_x (get_or text b 0)) where
-        pub hexadecimal : x ≡ true → o ≡ number_comes 16 (unescaped (drop (b + 1) text)) → o ≡ literal_comes (unescaped text)
+      module _ (m : b < length text) (c : ℕ) (q : c ≡ get_or text b 0) where
+        pub hexadecimal : (c ≡ byte "X") ⊎ (c ≡ byte "x") → o ≡ number_comes 16 (unescaped (drop (b + 1) text)) → o ≡ literal_comes (unescaped text)
         unfolding literal
-        hexadecimal t e = rw (e, k.rest, k.stands h, z, l.rest, l.stands m, ← y, t)
+        hexadecimal t e = rw (e, k.rest, k.stands h, z, l.rest, l.stands m, ← q, marks c t)
 
-        pub octal : x ≡ false → o ≡ number_comes 8 (unescaped (drop b text)) → o ≡ literal_comes (unescaped text)
+        pub octal : ((c ≡ byte "X") ⊎ (c ≡ byte "x") → ⊥) → o ≡ number_comes 8 (unescaped (drop b text)) → o ≡ literal_comes (unescaped text)
         unfolding literal
-        octal t e = rw (e, k.rest, k.stands h, z, l.rest, l.stands m, ← y, t)
+        octal n e = rw (e, k.rest, k.stands h, z, l.rest, l.stands m, ← q, ne_eqb c (byte "x") (λ x. n (inr x)), ne_eqb c (byte "X") (λ x. n (inl x)))

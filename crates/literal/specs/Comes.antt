@@ -1,15 +1,12 @@
 -- What literals come to.
-use Rattle.std.specs.Prelude.{min, ◌^◌, pos, ◌||◌}
-use Rattle.definition.specs.Text.{ℕ, Bool, List, Option, none, some, eqb, byte}
+use Rattle.std.specs.Prelude.{min, ◌^◌, pos}
+use Rattle.definition.specs.Text.{ℕ, List, Option, none, some}
 use Rattle.definition.specs.Condition.Value.{Outcome, within}
 use Rattle.definition.specs.Condition.Literal.{number_of, literal}
 use Rattle.definition.specs.Condition.Valuing.{no_expression}
 
 abbrev pub cap : ℕ → ℕ  -- A number that stops growing above the values of 32 bits.
 cap n = min n (2 ^ 31)
-
-abbrev pub is_x : ℕ → Bool
-is_x b = eqb b (byte "x") || eqb b (byte "X")
 
 -- The value of a number, which may be outside 32 bits; none is no expression.
 unfoldable pub comes : Option ℕ → Outcome

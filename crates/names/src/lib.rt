@@ -4,72 +4,68 @@
 ghost use Rattle.std.specs.Prelude.{◌≡◌};
 ghost use Rattle.definition.specs.Unescaped.{unescaped};
 ghost use Rattle.definition.specs.Condition.Meaning.{names, spells, first, valued, listed};
-ghost use Rattle.definition.specs.Condition.Value.{signed};
+ghost use Rattle.definition.specs.Condition.Value.{truth};
 ghost use Rattle.arithmetic.specs.Told.{told};
-ghost use Rattle.names.specs.Place.{Finds};
+ghost use Rattle.names.specs.Named.{named, found};
 
-use arithmetic::{Value, answers};
+use text::refusal::Refusal;
 
-// How many numbers a name has.
-const WIDTH: usize = 4;
-
-// Whether the name from start to end in a text is a word, both unescaped; it must not be empty, and lie inside the text.
-fn spelt(text: &[u8], start: usize, end: usize, word: &[u8]) -> bool
-    ensures { result ≡ spells text.now (unescaped word.now) (record { start = start; end = end; mark = 0; bits = 0 }) }
-{
-    if end <= start {
-        return false;
-    }
-    if text.len() < end {
-        return false;
-    }
-    unescaped::same_unescaped(&text[start..end], word)
+// A name of the list.
+#[derive(Clone, Copy)]
+struct Name {
+    start: u32,
+    end: u32,
+    // 0: it has no value.
+    mark: u32,
+    bits: u32,
 }
 
-// The place of the first name that is a word, unescaped; where there is none, a place behind the last.
-pub fn find(list: &[u32], text: &[u8], word: &[u8]) -> usize
-    ensures { Finds list.now text.now (unescaped word.now) result }
+// Whether a name in a text is a word, both unescaped; it must not be empty, and lie inside the text.
+#[tactic(auto, unfolding(definition::specs::Condition::Meaning::spells))]
+fn spelt(text: &[u8], name: Name, word: &[u8]) -> bool
+    ensures { result ≡ spells text.now (unescaped word.now) (named name) }
 {
-    let mut i: usize = 0;
-    'search: loop {
-        if list.len() - i < WIDTH {
-            break 'search list.len();
-        }
-        if spelt(text, list[i] as usize, list[i + 1] as usize, word) {
-            break 'search i;
-        }
-        i += WIDTH;
-    }
+    let start = name.start as usize;
+    let end = name.end as usize;
+    start < end && end <= text.len() && unescaped::same_unescaped(&text[start..end], word)
 }
 
-// The value that 32 bits are: from 2^31 on as far below -1 as they are below 2^32 - 1.
-fn signed_value(bits: u32) -> i32
-    ensures { result ≡ signed bits }
+// The first name that is a word, unescaped; numbers behind the last four are no name.
+#[tactic(auto, unfolding(definition::specs::Condition::Meaning::names, definition::specs::Condition::Meaning::first))]
+fn find(list: &[u32], text: &[u8], word: &[u8]) -> Option<Name>
+    ensures { found result ≡ first text.now (unescaped word.now) (names list.now) }
 {
-    if bits < 2147483648 {
-        return bits as i32;
+    let mut rest = list;
+    while let [start, end, mark, bits, behind @ ..] = rest {
+        let name = Name {
+            start: *start,
+            end: *end,
+            mark: *mark,
+            bits: *bits,
+        };
+        if spelt(text, name, word) {
+            return Some(name);
+        }
+        rest = behind;
     }
-    !(!bits as i32)
+    None
 }
 
 // The value of a word that is a name; it needs one.
-pub fn value_of(list: &[u32], text: &[u8], word: &[u8]) -> Value
+#[tactic(auto, unfolding(definition::specs::Condition::Meaning::valued))]
+pub fn value_of(list: &[u32], text: &[u8], word: &[u8]) -> Result<i32, Refusal>
     ensures { told result ≡ valued (first text.now (unescaped word.now) (names list.now)) }
 {
-    let i = find(list, text, word);
-    if list.len() <= i {
-        return answers::no_value();
+    match find(list, text, word) {
+        Some(name) if name.mark != 0 => Ok(name.bits.cast_signed()),
+        _ => Err(Refusal::Name),
     }
-    if list[i + 2] == 0 {
-        return answers::no_value();
-    }
-    answers::plain(signed_value(list[i + 3]))
 }
 
 // Whether the list has a word as a name, whatever its mark.
-pub fn is_listed(list: &[u32], text: &[u8], word: &[u8]) -> Value
-    ensures { told result ≡ listed (first text.now (unescaped word.now) (names list.now)) }
+#[tactic(auto, unfolding(definition::specs::Condition::Meaning::listed))]
+pub fn is_listed(list: &[u32], text: &[u8], word: &[u8]) -> bool
+    ensures { truth result ≡ listed (first text.now (unescaped word.now) (names list.now)) }
 {
-    let i = find(list, text, word);
-    answers::truth(i < list.len())
+    find(list, text, word).is_some()
 }
