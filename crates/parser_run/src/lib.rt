@@ -66,12 +66,7 @@ pub fn bump(src: &[u8], classes: &Classes, table: &mut [u32], state: ParserRun) 
 }
 
 // Takes the trivia that comes next.
-pub fn skip_trivia(
-    src: &[u8],
-    classes: &Classes,
-    table: &mut [u32],
-    state: ParserRun,
-) -> ParserRun
+pub fn skip_trivia(src: &[u8], classes: &Classes, table: &mut [u32], state: ParserRun) -> ParserRun
     requires { Reading src.now classes.now state.run.seen }
     ensures { Took src.now reader.skip_trivia table.old state table.new result }
 {
@@ -80,12 +75,7 @@ pub fn skip_trivia(
 }
 
 // Takes the rest of the line, up to its NEWLINE or the end.
-pub fn skip_inline(
-    src: &[u8],
-    classes: &Classes,
-    table: &mut [u32],
-    state: ParserRun,
-) -> ParserRun
+pub fn skip_inline(src: &[u8], classes: &Classes, table: &mut [u32], state: ParserRun) -> ParserRun
     requires { Reading src.now classes.now state.run.seen }
     ensures { Took src.now (reader.skip reader.inline) table.old state table.new result }
 {
@@ -94,12 +84,7 @@ pub fn skip_inline(
 }
 
 // Takes the leaf that is seen, but no NEWLINE.
-pub fn bump_inline(
-    src: &[u8],
-    classes: &Classes,
-    table: &mut [u32],
-    state: ParserRun,
-) -> ParserRun
+pub fn bump_inline(src: &[u8], classes: &Classes, table: &mut [u32], state: ParserRun) -> ParserRun
     requires { Reading src.now classes.now state.run.seen }
     ensures { Took src.now (reader.maybe reader.inline reader.bump) table.old state table.new result }
 {

@@ -7,8 +7,8 @@ ghost use Rattle.text.specs.Refusal.{number};
 ghost use Rattle.reading.specs.Parsed.{Begins, Lent, Parsed, Ended, due, Accepted};
 
 use parser_run::ParserRun;
-use pre::class::Classes;
 use pre::class;
+use pre::class::Classes;
 use syntax_kind::number::Kind;
 use tables::Ends;
 use text::refusal::Refusal;
