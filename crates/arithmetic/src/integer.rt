@@ -7,7 +7,7 @@ ghost use Rattle.arithmetic.specs.Told.{told, Places};
 use text::refusal::Refusal;
 
 // A whole number as a value, if it is one of 32 bits.
-fn fit(z: i64) -> Result<i32, Refusal>
+pub fn fit(z: i64) -> Result<i32, Refusal>
     ensures { told result ≡ within z }
 {
     i32::try_from(z).map_err(|_| Refusal::Range)

@@ -32,8 +32,8 @@ pub struct Reader<'a> {
     pub classes: &'a Classes,
     pub list: &'a [u32],
     pub text: &'a [u8],
-    ghost table: { classes.now ≡ class_table },
-    ghost short: { length src.now ≤ longest_source },
+    pub ghost table: { classes.now ≡ class_table },
+    pub ghost short: { length src.now ≤ longest_source },
 }
 
 // An expression that was read: what it comes to, and the leaf behind it.

@@ -18,7 +18,7 @@ const LINE: usize = 3;
 
 const COLUMN: usize = 4;
 
-// The line and the column of an error before they are filled in.
+// The line and the column of an error before they are filled in: numbers of the lent table (C interface), which are written over.
 const UNLOCATED: u32 = 0;
 
 // The sorts of errors, by their numbers; Rust's third is never raised.
@@ -39,7 +39,8 @@ impl From<ErrorKind> for u32 {
     }
 }
 
-// An error as it is met: its sort, its range, the actual kind, up to two expected kinds, and the range of a name; 0 where there is none.
+// An error as it is met: its sort, its range, the actual kind, up to two expected kinds, and the range of a name. The numbers
+// are those of the lent table, where 0 stands for none (C interface).
 #[derive(Clone, Copy)]
 pub struct Fault {
     pub sort: ErrorKind,

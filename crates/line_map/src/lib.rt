@@ -12,7 +12,7 @@ ghost use Rattle.text.specs.Refusal.{code};
 use text::refusal::Refusal;
 use text::{Counted, newline, source, stretch};
 
-// How many bytes are looked at together.
+// How many bytes are looked at together. Each look has a length of its own: a better one for this is not one for the others.
 const STEP: usize = 64;
 
 // Behind the bytes at a place that begin no newline, up to one that does. No bound as in `pre::comment`, which would stop at every tab of an indented line.
@@ -25,7 +25,8 @@ fn next_low(src: &[u8], at: usize) -> usize
     stretch::pass_each(src, steps, &quiet)
 }
 
-// Writes the line starts into a table, as far as it goes, and counts them all.
+// Writes the line starts into a table, as far as it goes, and counts them all. The place goes on by a byte or a newline and the quiet bytes behind it,
+// which no for counts.
 pub fn fill(src: &[u8], lines: &mut [u32]) -> usize
     requires { length src.now ≤ longest_source }
     ensures { Written (line_starts src.now) lines.old result lines.new }
@@ -78,7 +79,7 @@ fn rises(lines: &[u32]) -> bool
     lines.is_sorted_by(|a, b| a < b)
 }
 
-// Whether a table starts at 0 and rises strictly.
+// Whether a table starts at 0 and rises strictly. A type of such tables would be made and taken apart in the same call.
 #[tactic(auto, using(crate::proofs::Rising::zero_first, crate::proofs::Rising::other_first, crate::proofs::Rising::none_first))]
 fn is_line_table(lines: &[u32]) -> bool
     ensures { result ≡ line_table lines.now }

@@ -41,7 +41,8 @@ fn left<P: Print>(
     )
 }
 
-// Reads a source with three tables of these lengths,
+// Reads a source with three tables of these lengths, which are made here since they are lent and read behind the call. A pair: what was read holds
+// whether it was printed or not.
 fn read<P: Print>(rt: &P, words: &str, src: &[u8], rooms: Rooms) -> (Reading, io::Result<()>)
     ensures { Answers (reading src.now rooms.entries rooms.errors rooms.lines) result.0 }
 {
@@ -56,7 +57,7 @@ fn read<P: Print>(rt: &P, words: &str, src: &[u8], rooms: Rooms) -> (Reading, io
     (got, printed)
 }
 
-// and a define body with one.
+// The same of a define body with one table: with another answer, one function for both would be no plainer.
 fn body<P: Print>(rt: &P, words: &str, src: &[u8], room: usize) -> (Counted, io::Result<()>)
     requires { room ≤ most }
     ensures { Counts (reading_body src.now room) result.0 }
@@ -115,6 +116,7 @@ pub fn readings<P: Print>(rt: &P, src: &[u8]) -> io::Result<()>
 {
     let (got, printed) = read(rt, "long enough", src, Rooms::at_most(MOST, MOST, MOST));
     printed?;
+    // The refusal of a call is a number (C interface).
     if got.refusal != 0 {
         return read(rt, "none", src, Rooms::at_most(0, 0, 0)).1;
     }
@@ -128,12 +130,13 @@ pub fn readings<P: Print>(rt: &P, src: &[u8]) -> io::Result<()>
     together(rt, src, rooms)
 }
 
-// Reads it as a define body.
+// Reads it as a define body; with one table and another answer, one function for both would be no plainer.
 pub fn bodies<P: Print>(rt: &P, src: &[u8]) -> io::Result<()>
     ensures { Unit {0} }
 {
     let (got, printed) = body(rt, "body", src, MOST);
     printed?;
+    // The refusal of a call is a number (C interface).
     if got.refusal != 0 {
         return body(rt, "body none", src, 0).1;
     }

@@ -14,7 +14,7 @@ use tables::{ENTRY, Reading};
 // The longest source that is listed.
 pub const LONGEST: usize = 512;
 
-// Reads a source with these tables, and prints the reading: what it read, and whether it was printed.
+// Reads a source with these tables, and prints the reading: what it read, and whether it was printed. A pair: the first holds whatever the second is.
 pub fn list<P: Print>(
     rt: &P,
     src: &[u8],

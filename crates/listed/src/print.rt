@@ -7,7 +7,7 @@ use tables::{ENTRY, Reading};
 // How many numbers an error has.
 pub const ERROR: usize = 10;
 
-// The form of an entry that is a leaf.
+// The form of an entry that is a leaf, as a program reads it in the lent table (C interface).
 const LEAF: u32 = 0;
 
 // Numbers, each behind a comma.

@@ -12,7 +12,7 @@ use text::refusal::Refusal;
 // Above the largest value: a number does not grow beyond it.
 const CAP: u64 = 2147483648;
 
-// What a digit counts; other bytes count more than any digit.
+// What a digit counts; other bytes count 16, as in the definition: one comparison with the base tells both from its digits.
 #[tactic(auto, unfolding(definition::specs::Condition::Literal::digit_value))]
 pub fn digit_value(b: u8) -> u64
     ensures { result ≡ digit_value b }
@@ -25,7 +25,7 @@ pub fn digit_value(b: u8) -> u64
     }
 }
 
-// The number of a base that a text is, unescaped, from a place on.
+// The number of a base that a text is, unescaped, from a place on. The place goes on by more than one where a continuation is passed over.
 fn number(text: &[u8], at: usize, base: u64) -> Result<i32, Refusal>
     requires { (0 < base) × (base ≤ 16) }
     ensures { told result ≡ number_comes base (unescaped (drop at text.now)) }

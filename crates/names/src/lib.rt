@@ -12,12 +12,12 @@ use text::refusal::Refusal;
 
 // A name of the list.
 #[derive(Clone, Copy)]
-struct Name {
-    start: u32,
-    end: u32,
+pub struct Name {
+    pub start: u32,
+    pub end: u32,
     // 0: it has no value.
-    mark: u32,
-    bits: u32,
+    pub mark: u32,
+    pub bits: u32,
 }
 
 // Whether a name in a text is a word, both unescaped; it must not be empty, and lie inside the text.
@@ -32,7 +32,7 @@ fn spelt(text: &[u8], name: Name, word: &[u8]) -> bool
 
 // The first name that is a word, unescaped; numbers behind the last four are no name.
 #[tactic(auto, unfolding(definition::specs::Condition::Meaning::names, definition::specs::Condition::Meaning::first))]
-fn find(list: &[u32], text: &[u8], word: &[u8]) -> Option<Name>
+pub fn find(list: &[u32], text: &[u8], word: &[u8]) -> Option<Name>
     ensures { found result ≡ first text.now (unescaped word.now) (names list.now) }
 {
     let mut rest = list;

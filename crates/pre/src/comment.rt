@@ -52,7 +52,7 @@ pub fn single_comment(src: &[u8], table: &Classes, at: usize) -> Token
     }
 }
 
-// How many bytes of a comment are looked at together.
+// How many bytes of a comment are looked at together; each look has a length of its own.
 const STEP: usize = 16;
 
 // Behind the bytes at a place that are no stars, as far as they are none in whole steps.
@@ -62,7 +62,7 @@ fn pass_no_star(src: &[u8], at: usize) -> usize
     stretch::pass_steps::<STEP, _>(src, at, &|b: u8| b != b'*')
 }
 
-// The rest of a comment, from `at` on: a star takes the next character.
+// The rest of a comment, from `at` on: a star takes the next character. The place goes on by one byte, or behind a star by two and more.
 pub fn multi_comment(src: &[u8], at: usize) -> Token
     ensures { told result ≡ from state.multi_comment 0 at src.now }
 {

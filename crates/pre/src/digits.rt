@@ -21,6 +21,7 @@ fn takes(b: u8, e: bool, dot: bool) -> bool
 }
 
 // The rest of a digit sequence, from `at` on. The place goes on by more than one where a newline is passed over.
+#[inline(always)]
 pub fn digits(src: &[u8], table: &Classes, at: usize) -> Token
     requires { table.now ≡ class_table }
     ensures { told result ≡ from (state.digits false false) 0 at src.now }

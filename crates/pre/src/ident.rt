@@ -11,6 +11,7 @@ use syntax_kind::kind::SyntaxKind;
 use text::{newline, stretch};
 
 // The rest of an identifier, from `at` on. The place goes on by more than one where a newline is passed over.
+#[inline(always)]
 pub fn ident(src: &[u8], table: &Classes, at: usize) -> Token
     requires { table.now ≡ class_table }
     ensures { told result ≡ from state.ident 0 at src.now }

@@ -10,7 +10,7 @@ ghost use Rattle.reading.specs.Promise.{ReadsSource, ReadsDefineBody};
 use tables::Reading;
 use text::Counted;
 
-// Reads a source: its entries, its errors and its lines.
+// Reads a source: its entries, its errors and its lines. The tables are handed on as the call lends them (C interface).
 pub fn read(src: &[u8], entries: &mut [u32], errors: &mut [u32], lines: &mut [u32]) -> Reading
     ensures { ReadsSource src.now (length entries.old) (length errors.old) (length lines.old) result entries.new errors.new lines.new }
 {
@@ -20,7 +20,8 @@ pub fn read(src: &[u8], entries: &mut [u32], errors: &mut [u32], lines: &mut [u3
     }
 }
 
-// Reads a define body: its entries, up to the first newline.
+// Reads a define body: its entries, up to the first newline. Apart from `read`: with one table in place of three and another answer, one function for
+// both would be no plainer.
 pub fn define_body(src: &[u8], entries: &mut [u32]) -> Counted
     ensures { ReadsDefineBody src.now (length entries.old) result entries.new }
 {

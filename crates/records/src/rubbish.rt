@@ -25,9 +25,9 @@ pub struct Rooms {
     pub entries: usize,
     pub errors: usize,
     pub lines: usize,
-    ghost entries_fit: { entries ≤ most },
-    ghost errors_fit: { errors ≤ most },
-    ghost lines_fit: { lines ≤ most },
+    pub ghost entries_fit: { entries ≤ most },
+    pub ghost errors_fit: { errors ≤ most },
+    pub ghost lines_fit: { lines ≤ most },
 }
 
 impl Rooms {

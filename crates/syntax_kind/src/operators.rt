@@ -8,6 +8,7 @@ use crate::kind::SyntaxKind;
 
 // The kind of an operator with `=` behind it, if they glue.
 #[tactic(auto, unfolding(theorems::specs::Step::glued_kind, definition::specs::Glue::glued))]
+#[inline(always)]
 pub fn with_equal(a: SyntaxKind) -> Option<SyntaxKind>
     ensures { maybe result ≡ glued_kind (number a) Kind.EQUAL }
 {
@@ -32,6 +33,7 @@ pub fn with_equal(a: SyntaxKind) -> Option<SyntaxKind>
 
 // The kind of an operator twice, if it glues with itself.
 #[tactic(auto, unfolding(theorems::specs::Step::glued_kind, definition::specs::Glue::glued))]
+#[inline(always)]
 pub fn doubled(a: SyntaxKind) -> Option<SyntaxKind>
     ensures { maybe result ≡ glued_kind (number a) (number a) }
 {

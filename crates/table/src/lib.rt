@@ -12,7 +12,8 @@ pub fn clear(t: &mut [u32])
     t.fill(0);
 }
 
-// Puts x at place n, if the table has one.
+// Puts x at place n, if the table has one; get_mut would take the same test. The place is counted on past the table's end, so that no rest of the table
+// could stand for it.
 pub fn put<T: Copy>(t: &mut [T], n: usize, x: T)
     ensures { t.new ≡ set t.old n x }
 {

@@ -23,7 +23,7 @@ pub fn shortage(over: bool, n: usize, entries: usize) -> Result<(), Refusal>
     Ok(())
 }
 
-// A refused body: the table is cleared.
+// A refused body: the table is cleared. One table in place of three, which no loop can hold.
 pub fn refused(entries: &mut [u32], refusal: Refusal) -> Counted
     ensures { BodyRefused (number refusal) (length entries.old) result entries.new }
 {
@@ -31,7 +31,7 @@ pub fn refused(entries: &mut [u32], refusal: Refusal) -> Counted
     Counted::from(Err(refusal))
 }
 
-// A body that is not refused and ended at n: the table is cleared behind it.
+// A body that is not refused and ended at n: the table is cleared behind it. It stays lent whole; only its rest is cleared.
 pub fn finished(entries: &mut [u32], n: usize) -> Counted
     requires { (n ≤ length entries.old) × Countable (n / Width.entry) }
     ensures { BodyFinished n entries.old result entries.new }

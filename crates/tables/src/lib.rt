@@ -24,7 +24,8 @@ pub struct Reading {
 pub const ENTRY: usize = 5;
 
 // Where a reading ended: whether a body held too many ##, and the places behind the last entry, the last error and the last line; past the
-// table's end if they don't fit.
+// table's end if they don't fit. The tables are the caller's, and each place is compared with its table's length; the places are known where a body
+// held too many ## too.
 #[derive(Clone, Copy)]
 pub struct Ends {
     pub over: bool,
@@ -73,7 +74,7 @@ pub fn refused(
     }
 }
 
-// Clears a table from n on.
+// Clears a table from n on: it stays lent whole.
 pub fn clear_behind(t: &mut [u32], n: usize)
     requires { n ≤ length t.old }
     ensures { t.new ≡ cleared_behind n t.old }

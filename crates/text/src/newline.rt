@@ -3,7 +3,7 @@ ghost use Rattle.std.specs.Prelude.{◌≡◌, drop, get_or};
 ghost use Rattle.definition.specs.Newline.{chars};
 ghost use Rattle.text.specs.Newline.{newline_pair, newline_len as Newline·newline_len};
 
-// The byte at a place; 0 past the end.
+// The byte at a place; 0 past the end: no caller looks for byte 0, so that the end needs no case of its own.
 pub fn byte_at(src: &[u8], at: usize) -> u8
     ensures { result ≡ get_or src.now at 0 }
 {
@@ -14,14 +14,15 @@ pub fn byte_at(src: &[u8], at: usize) -> u8
 fn newline_len(a: u8, b: u8) -> usize
     ensures { result ≡ newline_pair a b }
 {
-    match (a, b) {
-        (b'\n', b'\r') | (b'\r', b'\n') => 2,
-        (b'\n' | b'\r', _) => 1,
+    match a {
+        b'\n' => 1 + usize::from(b == b'\r'),
+        b'\r' => 1 + usize::from(b == b'\n'),
         _ => 0,
     }
 }
 
-// How many bytes the newline at a place has; 0: none stands there. The number is what a reader passes over, so 0 needs no case of its own.
+// How many bytes the newline at a place has; 0: none stands there. The number is what a reader passes over; an
+// Option would be taken apart for the same 0 where nothing is passed over.
 pub fn newline_at(src: &[u8], at: usize) -> usize
     ensures { result ≡ Newline·newline_len (chars (drop at src.now)) }
 {

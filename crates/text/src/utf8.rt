@@ -54,7 +54,7 @@ fn later(low: u8, high: u8, b: u8, s: State) -> Option<State>
     if low <= b && b <= high { Some(s) } else { None }
 }
 
-// One byte more in a state.
+// One byte more in a state. An arm for each state: a constant array would be built anew at each use.
 fn step(s: State, b: u8) -> Option<State>
     ensures { next_wants result ≡ wanted_after (wants s) b }
 {

@@ -17,7 +17,8 @@ use syntax_kind::number::Kind;
 use text::newline::{byte_at, newline_at};
 use tree::Pen;
 
-// Whether a character of class c is a token alone, whatever follows: [ ] ( ) { } ~ : ; , ?
+// Whether a character of class c is a token alone, whatever follows: [ ] ( ) { } ~ : ; , ? A call of it at each token would be slower.
+#[inline(always)]
 pub fn single(c: SyntaxKind) -> bool
     ensures { result ≡ true → Single (number c) }
 {
@@ -39,6 +40,7 @@ pub fn single(c: SyntaxKind) -> bool
 
 // Whether nothing glues to an operator of class c, or a PERIOD, before a character of class d: only `=` and the operator itself may. Not said of `/` and
 // `<`, which take more looking.
+#[inline(always)]
 fn unglued(c: SyntaxKind, d: SyntaxKind) -> bool
     ensures { result ≡ true → Alone (number c) (number d) }
 {
@@ -78,23 +80,26 @@ fn quick_punct(src: &[u8], classes: &Classes, at: usize, c: SyntaxKind) -> Optio
 }
 
 // The token at a place that begins with a character of class c, where it is seen at once: a word, blanks, a number or one character. It is no
-// continuation, and does not change whether an angle string is expected.
+// continuation, and does not change whether an angle string is expected. One test after another: a match on the kind becomes a table of jumps, which is
+// slower.
 fn quick(src: &[u8], classes: &Classes, at: usize, c: SyntaxKind) -> Option<Token>
     requires table { classes.now ≡ class_table }
     requires within { at < length src.now }
     requires class { number c ≡ class_number (get_or src.now at 0) }
     ensures { IfSome result (Quick src.now at) }
 {
-    match c {
-        SyntaxKind::IDENT_KW => {
-            let t = pre::ident::word(src, classes, at + 1);
-            let kind = pre::name::name(src, at, t.end, t.kind);
-            Some(Token { kind, end: t.end })
-        }
-        SyntaxKind::WS => Some(pre::whitespace::whitespace(src, classes, at + 1)),
-        SyntaxKind::DIGITS => Some(pre::digits::digits(src, classes, at + 1)),
-        _ => quick_punct(src, classes, at, c),
+    if let SyntaxKind::IDENT_KW = c {
+        let t = pre::ident::word(src, classes, at + 1);
+        let kind = pre::name::name(src, at, t.end, t.kind);
+        return Some(Token { kind, end: t.end });
     }
+    if let SyntaxKind::WS = c {
+        return Some(pre::whitespace::whitespace(src, classes, at + 1));
+    }
+    if let SyntaxKind::DIGITS = c {
+        return Some(pre::digits::digits(src, classes, at + 1));
+    }
+    quick_punct(src, classes, at, c)
 }
 
 // Whether a byte, with the one behind it, begins neither HASH nor a comment of several lines nor a continuation.
@@ -159,7 +164,7 @@ fn leaf_at(src: &[u8], classes: &Classes, at: u32, angle: bool) -> Seen
 }
 
 // Takes the rest of a text line, up to and with its NEWLINE, and the lines behind it while they are seen to be text; at and angle: where the rest
-// begins, and whether an angle string is expected there.
+// begins, and whether an angle string is expected there. The place goes on by a leaf.
 fn rest_of_lines(
     src: &[u8],
     classes: &Classes,

@@ -24,29 +24,32 @@ use text::{Counted, source};
 const WIDTH: usize = 3;
 
 // The token at a place within the source that is seen at once: a word, blanks, or a character to which nothing glues. For the others the lexer takes
-// a step: that is a call, since the reading of a source takes such steps too.
+// a step: that is a call, since the reading of a source takes such steps too. Apart from `text_lines::quick`: a listing that looks for a word's end among
+// 32 bytes at once is slower where words come again in the same places.
 fn quick(src: &[u8], classes: &Classes, at: usize) -> Option<Token>
     requires table { classes.now ≡ class_table }
     requires within { at < length src.now }
     ensures { IfSome result (Quick src.now at) }
 {
     let c = class_of(classes, src[at]);
-    match c {
-        SyntaxKind::IDENT_KW => {
-            let t = pre::ident::ident(src, classes, at + 1);
-            let kind = pre::name::name(src, at, t.end, t.kind);
-            Some(Token { kind, end: t.end })
-        }
-        SyntaxKind::WS => Some(pre::whitespace::whitespace(src, classes, at + 1)),
-        _ if text_lines::single(c) => Some(Token {
+    if let SyntaxKind::IDENT_KW = c {
+        let t = pre::ident::ident(src, classes, at + 1);
+        let kind = pre::name::name(src, at, t.end, t.kind);
+        return Some(Token { kind, end: t.end });
+    }
+    if let SyntaxKind::WS = c {
+        return Some(pre::whitespace::whitespace(src, classes, at + 1));
+    }
+    if text_lines::single(c) {
+        return Some(Token {
             kind: c,
             end: at + 1,
-        }),
-        _ => None,
+        });
     }
+    None
 }
 
-// Writes the numbers of the tokens into a table, and gives the place behind them, or a far one if they don't fit.
+// Writes the numbers of the tokens into a table, and gives the place behind them, or a far one if they don't fit. The place goes on by a token.
 fn fill(src: &[u8], t: &mut [u32]) -> usize
     requires { length src.now ≤ longest_source }
     ensures { Laid (token_numbers 0 (tokens false src.now)) (page t.old 0) (page t.new result) }

@@ -23,7 +23,7 @@ impl From<Form> for u32 {
     }
 }
 
-// The kind of a node that is still open.
+// The kind of a node that is still open: a number of the lent table (C interface), which is written over when the node ends.
 const OPEN_KIND: u32 = 0;
 
 // How many numbers an entry has, and where its kind and its end stand behind the first, its form.

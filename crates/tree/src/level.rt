@@ -9,14 +9,14 @@ pub const MOST_CONCATS: u32 = 256;
 // A PP_CONCAT for each ##, a body, a directive, ROOT, and one to spare.
 pub const OPEN_LEVELS: usize = MOST_CONCATS as usize + 4;
 
-// All 0 at first: no node is open.
+// All 0 at first: no node is open. An array, since there is no heap; the pen's depth is its length.
 pub fn levels() -> [usize; OPEN_LEVELS]
     ensures { result ≡ replicate open_levels 0 }
 {
     [0; OPEN_LEVELS]
 }
 
-// The place of the open node at level d.
+// The place of the open node at level d; 0 past the last level, as in the definition, so that the writer needs no case of its own.
 pub fn at(levels: &[usize; OPEN_LEVELS], d: u32) -> usize
     ensures { result ≡ level_at levels.now d }
 {
@@ -30,7 +30,7 @@ pub fn put(levels: &mut [usize; OPEN_LEVELS], d: u32, n: usize)
     table::put(levels, d as usize, n);
 }
 
-// One level deeper, if there is one.
+// One level deeper, if there is one. A level past the last stays where it is, so that this is no min.
 pub fn deeper(d: u32) -> u32
     ensures { result ≡ one_deeper d }
 {

@@ -12,14 +12,15 @@ pub fn start(room: usize, n: usize) -> usize
     n.min(room)
 }
 
-// How many numbers of the whole table lie before the tail that begins at a of a part, where `before` lie before the part; FAR: more than a table has.
+// How many numbers of the whole table lie before the tail that begins at a of a part, where `before` lie before the part. A sum that
+// no number holds is FAR, which no table has, so that it needs no case of its own.
 pub fn base(before: usize, a: usize) -> usize
     ensures { result ≡ tail_base before a }
 {
     before.saturating_add(a)
 }
 
-// The place m of the tail from n, counted from the front of the table.
+// The place m of the tail from n, counted from the front of the table; FAR behind the table, where no row has room, so that it needs no case of its own.
 #[tactic(auto, unfolding(crate::specs::Tail::behind))]
 fn behind(room: usize, n: usize, m: usize) -> usize
     ensures { result ≡ behind room n m }

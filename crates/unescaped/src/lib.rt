@@ -28,7 +28,7 @@ fn continuation_at(text: &[u8], at: usize) -> usize
     }
 }
 
-// The first place from a place on at which no continuation stands.
+// The first place from a place on at which no continuation stands. Here and below, the place goes on by more than one where one is passed over.
 pub fn skip(text: &[u8], at: usize) -> usize
     ensures { Skips text.now at result }
 {

@@ -2,7 +2,7 @@
 ghost use Rattle.std.specs.Prelude.{◌<◌, length};
 ghost use Rattle.std.specs.Iterator.{at_most};
 
-// A hexadecimal digit; other bytes count nothing.
+// A hexadecimal digit; other bytes count nothing: an Option would be taken apart at once for the same 0.
 fn digit(b: u8) -> u8
     ensures { result < 16 }
 {

@@ -17,6 +17,6 @@ pub returns-in-WS : goal.returns-in-WS
 returns-in-WS c =
     quick_blanks c.args.src.now c.args.at c.requires.within c.class_of-c.result c.class_of-c.ensures c.whitespace.result c.in-WS.is c.whitespace.ensures
 
-pub returns-in_default : goal.returns-in_default
-returns-in_default c =
+pub returns-then-single : goal.returns-then-single
+returns-then-single c =
     quick_single c.args.src.now c.args.at c.requires.within c.class_of-c.result c.class_of-c.ensures _ c.single.ensures c.if-single.true
