@@ -18,9 +18,6 @@ use Rattle.pre.proofs.Froms.{from_end, from_same, from_stop}
 pub record Wide (s : List ℕ) (k b at i : ℕ) : Type 0 where
   pub is : from (done k) b at s ≡ from (done k) b i s
 
-pub wide_begun : (s : List ℕ) (k b at : ℕ) → Wide s k b at at
-wide_begun s k b at = record { is = refl }
-
 module _ (s : List ℕ) (kind b at i : ℕ) (l : 192 ≤ b) (u : b < 256) (k : Wide s kind b at i) where
   pub wide_ended : (n : ℕ) → length s ≤ i → n ≡ i → token kind n ≡ from (done kind) b at s
   unfolding kind_of

@@ -1,5 +1,5 @@
 -- Comments, and the slash before them, from a place of the source on.
-use Prim.Native.Nat.{ℕ, ◌+◌, ◌-◌, ◌≤◌, ◌<◌, max}
+use Prim.Native.Nat.{ℕ, ◌+◌, ◌≤◌, ◌<◌, max}
 use native.Mathlib.Decide.{dec_lt}
 use mathlib.Core.Path.{◌≡◌, refl, sym, ap, ◌∙◌}
 use mathlib.Core.Bool.{Bool, false, true}
@@ -39,9 +39,6 @@ width_is w m s at e q = go (eqb (newline_len (chars (drop at s))) 0) refl
 -- Single-line comments.
 abbrev escaped : State
 escaped = backslash in_comment
-
-pub line_begun : (s : List ℕ) (at i : ℕ) → Passes single_comment s at i → Same s single_comment at single_comment i
-line_begun s at i k = record { is = k.is }
 
 module _ (s : List ℕ) (at i : ℕ) (k : Same s single_comment at single_comment i) where
   pub line_ended : length s ≤ i → token Kind.COMMENT i ≡ from single_comment 0 at s
@@ -97,12 +94,6 @@ line_width s i w l v = go (eqb n 0) refl
     go false e = let z : w ≡ n = v ∙ rw e in omega (arith, passed s i n (omega arith) refl)
 
 -- Comments.
-pub star_begun : (s : List ℕ) (at i : ℕ) → Passes multi_comment s at i → Same s multi_comment at multi_comment i
-star_begun s at i k = record { is = k.is }
-
-pub star_nearer : (s : List ℕ) (i to : ℕ) → i < length s → Passes multi_comment s (i + 2) to → length s - to < length s - i
-star_nearer s i to h k = omega (arith, k.forward)
-
 module _ (s : List ℕ) (at i : ℕ) (k : Same s multi_comment at multi_comment i) where
   pub star_ended : length s ≤ i → token Kind.ERROR i ≡ from multi_comment 0 at s
   unfolding kind_of

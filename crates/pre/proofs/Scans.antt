@@ -1,5 +1,5 @@
 -- The steps of the loops that read one token, over a place of the source.
-use Prim.Native.Nat.{ℕ, ◌+◌, ◌-◌, ◌^◌, ◌≤◌, ◌<◌}
+use Prim.Native.Nat.{ℕ, ◌+◌, ◌^◌, ◌≤◌, ◌<◌}
 use mathlib.Core.Path.{◌≡◌, refl, sym, ◌∙◌}
 use mathlib.Core.Bool.{Bool, true, false}
 use mathlib.Core.List.{List}
@@ -101,6 +101,3 @@ module _ (s : List ℕ) (i w : ℕ) (h : i < length s) (e : w ≡ newline_len (c
 
   pub passed_fits : length s < 2 ^ 64 → Fits w64 (i + 1 + w)
   passed_fits l = omega (arith, passed)
-
-  pub passed_falls : length s - (i + 1 + w) < length s - i
-  passed_falls = omega (arith, passed)

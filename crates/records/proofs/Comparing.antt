@@ -85,9 +85,6 @@ pub record Comparing (call : Call) (s : List ℕ) (records : ℕ) (rest : List �
   pub enough : length rest ≤ fuel
   pub same_as : compared call s ≡ compared_from fuel records call rest
 
-pub compare_none : (call : Call) (s : List ℕ) → Comparing call s 0 s
-compare_none call s = record { few = omega arith; fuel = length s; enough = omega arith; same_as = refl }
-
 module _ (call : Call) (s : List ℕ) (records : ℕ) (rest : List ℕ) (k : Comparing call s records rest) where
   module _ (h : 0 < length rest) where
     one_more : compared call s ≡ compared_from (suc (k.fuel - 1)) records call rest

@@ -32,9 +32,6 @@ pub record Decoding (s t₀ t : List ℕ) (n : ℕ) (rest : List ℕ) : Type 0 w
   pub few : n + length rest ≤ length s
   pub writing : Writing (length (numbers s)) (sets t₀ 0 (numbers s)) (numbers rest) n t
 
-pub decode_none : (s t : List ℕ) → Decoding s t t 0 s
-decode_none s t = record { few = omega arith; writing = record { counted = omega arith; written = refl } }
-
 module _ (s t₀ t : List ℕ) (n : ℕ) (rest : List ℕ) (k : Decoding s t₀ t n rest) where
   pub decode_more : (x : ℕ) (t₁ behind : List ℕ) → 4 ≤ length rest → t₁ ≡ set t n x → x ≡ number rest 0 → behind ≡ drop 4 rest → Decoding s t₀ t₁ (n + 1) behind
   decode_more x t₁ behind h q e f = record {

@@ -9,7 +9,6 @@ use lib.ListN.{get_or, length}
 use Rattle.syntax_kind.specs.Number.{number, numbered_kinds, kind_of}
 use Rattle.syntax_kind.specs.declared.kind.SyntaxKind.{SyntaxKind}
 use Rattle.syntax_kind.specs.declared.kind.SyntaxKind.TheVariants as kind
-use Rattle.syntax_kind.proofs.Matches.{NoneOf}
 
 again : (k : SyntaxKind) → kind_of (number k) ≡ k
 again kind.IDENT_KW = refl
@@ -113,10 +112,6 @@ other_kind a b h e = h (same_kind a b e)
 abbrev pub NoneOfKinds : Type 0 → SyntaxKind → List SyntaxKind → Type 0
 NoneOfKinds T a [] = T
 NoneOfKinds T a (k ∷ ks) = NoneOfKinds (T × (a ≡ k → ⊥)) a ks
-
-pub none_of_kinds : (T U : Type 0) (a : SyntaxKind) (ks : List SyntaxKind) → (T → U) → NoneOfKinds T a ks → NoneOf U (number a) (map number ks)
-none_of_kinds T U a [] f n = f n
-none_of_kinds T U a (k ∷ ks) f n = none_of_kinds (T × (a ≡ k → ⊥)) (U × (number a ≡ number k → ⊥)) a ks (λ p. (f p.0, other_kind a k p.1)) n
 
 -- Kinds in the order of their numbers, from n on.
 abbrev from : ℕ → List SyntaxKind → List ℕ

@@ -1,5 +1,5 @@
 -- Rows of numbers put into a table, one after the other: all of them, or not all.
-use Prim.Native.Nat.{ℕ, suc, ◌+◌, ◌-◌, ◌≤◌, ◌<◌}
+use Prim.Native.Nat.{ℕ, ◌+◌, ◌-◌, ◌≤◌, ◌<◌}
 use native.Mathlib.Omega.{arith}
 use native.Mathlib.Nat.{add-zero, zero-add, add_assoc}
 use native.Mathlib.Decide.{dec_le}
@@ -7,8 +7,8 @@ use mathlib.Core.Path.{◌≡◌, refl, ap, sym, ◌∙◌}
 use mathlib.Core.Bool.{true, false}
 use mathlib.Core.List.{List, [], ◌∷◌, ◌++◌, flat_map, append_assoc, append-nil}
 use borrow.Author.Tests.{le-leb, lt-leb}
-use lib.ListN.{length, drop, get_or, set, length-set, length-append, drop_of_length-le}
-use lib.Seq.{sets, length-sets, drop-cons}
+use lib.ListN.{length, drop, set, length-set, length-append, drop_of_length-le}
+use lib.Seq.{sets, length-sets}
 use Rattle.table.specs.Row.{far, Page, page, fits, put, Stands, within, past, Laid}
 use Rattle.table.proofs.Sets.{sets_set, set_sets, sets_append}
 
@@ -185,24 +185,12 @@ pub record Putting (row t₀ : List ℕ) (n : ℕ) (t : List ℕ) (i : ℕ) : Ty
   pub rest : sets t (n + i) (drop i row) ≡ sets t₀ n row
 
 module _ (row t₀ : List ℕ) (n rest : ℕ) (e : rest ≡ length t₀ - n) where
-  pub putting_none : length row ≤ rest → Putting row t₀ n t₀ 0
-  putting_none h = record { within = omega arith; room = rw (← e) h; rest = rw (add-zero n) }
-
   pub put_short : rest < length row → page t₀ far ≡ put row (page t₀ n)
   put_short h = sym (put_out row t₀ n (omega arith))
 
 module _ (row t₀ : List ℕ) (n : ℕ) (t : List ℕ) (i : ℕ) (k : Putting row t₀ n t i) where
   putting_long : length t ≡ length t₀
   putting_long = sym (length-sets t (n + i) (drop i row)) ∙ ap length k.rest ∙ length-sets t₀ n row
-
-  pub putting_place : i < length row → n + i < length t
-  putting_place h = omega (arith, putting_long, k.room)
-
-  pub putting_more : i < length row → Putting row t₀ n (set t (n + i) (get_or row i 0)) (i + 1)
-  putting_more h =
-      let m : n + (i + 1) ≡ suc (n + i) = omega arith in
-      let j : i + 1 ≡ suc i = omega arith in
-      record { within = omega arith; room = k.room; rest = rw (m, j) (ap (sets t (n + i)) (sym (drop-cons row i 0 h)) ∙ k.rest) }
 
   pub putting_done : length row ≤ i → page t (n + length row) ≡ put row (page t₀ n)
   putting_done h = ap (λ l. page l (n + length row)) (ap (sets t (n + i)) (sym (drop_of_length-le row h)) ∙ k.rest) ∙ sym (put_in row t₀ n k.room)

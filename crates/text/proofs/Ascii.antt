@@ -7,10 +7,8 @@ use borrow.Author.Tests.{ltb-true}
 use lib.ListN.{length, drop, get_or}
 use Rattle.definition.specs.Text.{some}
 use Rattle.definition.specs.Utf8.{char_forms, left}
-use Rattle.text.specs.Stretch.{Passing}
-use Rattle.text.specs.Utf8.{wants, wanted_after, above_ascii, is_ascii, Passes}
+use Rattle.text.specs.Utf8.{wants, wanted_after, above_ascii, Passes}
 use Rattle.text.specs.declared.utf8.State.{State}
-use Rattle.text.specs.declared.utf8.State.TheVariants.{Start}
 use Rattle.text.proofs.Stretches.{stretch_same}
 use Rattle.text.proofs.Utf8s.{first_in, follow_range, left_more}
 
@@ -21,8 +19,5 @@ one_low src i h l = left_more src [] i h ∙ rw (← first_in 0 0x7F {r = some [
 
 -- So what is left behind ASCII is what was left before it.
 module _ (q : State) (src : List ℕ) (i : ℕ) where
-  pub pass_ascii : (to : ℕ) → q ≡ Start → Passing is_ascii src i to → Passes q src i to
-  pass_ascii to p k = record { forward = k.forward; within = k.within; each = λ j a b. (p, k.each j a b) }
-
   pub pass_over : (to : ℕ) → Passes q src i to → left (wants q) (drop i src) ≡ left (wants q) (drop to src)
   pass_over = stretch_same src i (λ j. left (wants q) (drop j src)) (λ j h p. rw p.0 (one_low src j h (ltb-true _ above_ascii p.1)))

@@ -1,24 +1,18 @@
 -- The UTF-8 check along a source: what is left of the rest, for what its state wants, is what is left of the whole.
-use Rattle.std.specs.Prelude.{Option, Some, None, Result, ⊤}
+use Rattle.std.specs.Prelude.{Option, Some, None}
 use Prim.Native.Nat.{ℕ, ◌+◌, ◌≤◌, ◌<◌}
-use native.Mathlib.Omega.{arith}
-use mathlib.Core.Path.{◌≡◌, refl, sym, ap, ◌∙◌}
+use mathlib.Core.Path.{◌≡◌, sym, ap, ◌∙◌}
 use mathlib.Core.List.{List, []}
 use lib.ListN.{length, drop, get_or}
 use Rattle.definition.specs.Utf8.{left, broken}
-use Rattle.text.specs.Utf8.{wants, next_wants, wanted_after, told, Passes}
+use Rattle.text.specs.Utf8.{wants, next_wants, wanted_after, Passes}
 use Rattle.text.specs.declared.utf8.State.{State}
-use Rattle.text.specs.declared.utf8.State.TheVariants.{Start}
-use Rattle.text.specs.declared.utf8.Utf8Error.{Utf8Error}
 use Rattle.text.proofs.Ascii.{pass_over}
-use Rattle.text.proofs.Utf8s.{go_on, left_more, left_end}
+use Rattle.text.proofs.Utf8s.{go_on, left_more}
 
 pub record Checking (src : List ℕ) (s : State) (i : ℕ) : Type 0 where
   pub within : i ≤ length src
   pub rest : left [] src ≡ left (wants s) (drop i src)
-
-pub check_start : (src : List ℕ) → Checking src Start 0
-check_start src = record { within = omega arith; rest = refl }
 
 module _ (src : List ℕ) (s : State) (i : ℕ) (k : Checking src s i) where
   further : (n : Option State) → i < length src → next_wants n ≡ wanted_after (wants s) (get_or src i 0) → left [] src ≡ go_on (next_wants n) (drop (i + 1) src)
@@ -34,6 +28,3 @@ module _ (src : List ℕ) (s : State) (i : ℕ) (k : Checking src s i) where
 
   pub unwanted_byte : (n : Option State) → i < length src → next_wants n ≡ wanted_after (wants s) (get_or src i 0) → n ≡ None → broken ≡ left [] src
   unwanted_byte n h e q = sym (further n h e ∙ ap (λ n. go_on (next_wants n) (drop (i + 1) src)) q)
-
-  pub no_byte : (l : Result ⊤ Utf8Error) → length src ≤ i → told l ≡ left (wants s) [] → told l ≡ left [] src
-  no_byte l h e = e ∙ sym (k.rest ∙ left_end src (wants s) i h)

@@ -19,17 +19,8 @@ stood r a b e t = leb-true a b (sym e ∙ t)
 
 -- What lies within them is a place of the source, and fits a number.
 module _ (size : ℕ) (r : Bool) (at : ℕ) (s : List ℕ) (e : r ≡ leb (at + size) (length s)) (t : r ≡ true) where
-  pub part_within : (n : ℕ) → n < size → at + n < length s
-  part_within n h = omega (arith, stood r (at + size) (length s) e t)
-
   pub part_fits : (n : ℕ) → n < size → length s < 2 ^ 64 → Fits w64 (at + n)
   part_fits n h b = omega (arith, stood r (at + size) (length s) e t)
-
-  pub whole_fits : length s < 2 ^ 64 → Fits w64 (at + size)
-  whole_fits b = omega (arith, stood r (at + size) (length s) e t)
-
-  pub whole_nearer : 0 < size → length s - (at + size) < length s - at
-  whole_nearer h = omega (arith, stood r (at + size) (length s) e t)
 
 -- The place of one byte.
 module _ (test : ℕ → Bool) (b k : ℕ) where

@@ -4,7 +4,7 @@ use native.Mathlib.Decide.{dec_lt}
 use native.Mathlib.Nat.{add-zero}
 use native.Mathlib.Numerals.{add-one}
 use native.Mathlib.Omega.{arith}
-use mathlib.Core.Path.{◌≡◌, refl, sym, ap, ◌∙◌}
+use mathlib.Core.Path.{◌≡◌, refl, ap, ◌∙◌}
 use mathlib.Core.Bool.{Bool, true, and-eq-true_iff, ◌&&◌}
 use mathlib.Core.List.{List}
 use lib.ListN.{length, get_or, take, drop, length-drop}
@@ -86,12 +86,6 @@ module _ (test : ℕ → Bool) (post : ℕ → Bool → Type 0) (t : Tests post 
 
   pub each_further : (all : Bool) → all ≡ each_passes test k at s → all && r ≡ each_passes test (k + 1) at s
   each_further all e = each_more test s at k _ all r e refl tested
-
-  pub passing_further : Passing test s at (at + k) → to ≡ length s → at ≤ to → r ≡ true → Passing test s at (at + (k + 1))
-  passing_further q e l u =
-      let n : at + k < length s = omega (arith, length-take (to - at) (drop at s), length-drop at s) in
-      let v : at + k + 1 ≡ at + (k + 1) = omega arith in
-      rw v at (stretch_more s at (at + k) q n (sym tested ∙ u))
 
 pub part_whole : (s : List ℕ) (at n k : ℕ) → at + n ≤ length s → k ≤ length (take (at + n - at) (drop at s)) → length (take (at + n - at) (drop at s)) ≤ k → k ≡ n
 part_whole s at n k h a b = omega (arith, length-take (at + n - at) (drop at s), length-drop at s)

@@ -25,7 +25,7 @@ use Rattle.syntax_kind.specs.contracts.kind.SyntaxKind.{the_type}
 use Rattle.syntax_kind.specs.declared.kind.SyntaxKind.{SyntaxKind}
 use Rattle.syntax_kind.specs.declared.kind.SyntaxKind.TheVariants as kind
 use Rattle.syntax_kind.proofs.Numbers.{other_kind}
-use Rattle.pre.specs.Table.{ClassNumber, IsPunct, punct, class_number, class_number_of}
+use Rattle.pre.specs.Table.{IsPunct, punct, class_number, class_number_of}
 use Rattle.pre.specs.Scan.{Token, told, from}
 use Rattle.pre.specs.declared.token.Token as code
 use Rattle.pre.proofs.Classes.{Closed, Within, letter_is, digit_is, blank_is, letter_within, digit_within, class_kind, closed_letter, closed_digit, closed_blank, closed_punct}
@@ -92,18 +92,8 @@ single_kinds =
 pub single_kind : (k : SyntaxKind) → OneOf k single_kinds → Single (number k)
 single_kind k o = single_of (number k) (one_of singles k single_kinds refl o)
 
--- An operator, or a PERIOD, by the kind of what follows.
+-- An operator, by the kind of what follows.
 module _ (c d : SyntaxKind) where
-  pub alone_period : c ≡ kind.PERIOD → not (sameb the_type d kind.DIGITS) ≡ true → Alone (number c) (number d)
-  alone_period z n = rw z (record {
-    low = omega arith;
-    high = omega arith;
-    no_slash = λ y. omega arith;
-    no_less = λ y. omega arith;
-    no_number = λ y e. other_kind d kind.DIGITS (same_false the_type d kind.DIGITS (not-true _ n)) e;
-    no_glue = λ m. absurd (m refl);
-  })
-
   abbrev operators : ℕ → Bool
   operators n = ltb Kind.PERIOD n && (leb n Kind.HASH && (not (eqb n Kind.SLASH) && not (eqb n Kind.LANGLE)))
 

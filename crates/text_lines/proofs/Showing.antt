@@ -1,14 +1,14 @@
 -- A line that is seen to be text by its first bytes, and the leaf that stands at a place.
 use Prim.Native.Nat.{ℕ, ◌+◌, ◌≤◌, ◌<◌}
 use mathlib.Core.Path.{◌≡◌, refl, sym, ap, ◌∙◌}
-use mathlib.Core.Bool.{Bool, true, false, not, and-false, false≢true}
+use mathlib.Core.Bool.{Bool, true, false, and-false, false≢true}
 use mathlib.Core.List.{List}
 use native.Mathlib.Omega.{arith}
 use native.Mathlib.Decide.{dec_lt}
 use lib.Dec.{eqb}
 use lib.ListN.{length, drop, get_or}
 use lib.Seq.{drop-drop}
-use borrow.Author.Tests.{eqb-true, eqb-false, eq-eqb, ne_eqb}
+use borrow.Author.Tests.{eqb-true, eqb-false, ne_eqb}
 use mir.Val.{Fits}
 use mir.Syntax.{w32, w64}
 use Rattle.definition.specs.Text.{byte}
@@ -41,18 +41,6 @@ use Rattle.parser.specs.Rest.{Sees}
 use Rattle.text_lines.specs.Lines.{Quick, Begins, Shown, Going}
 use Rattle.parser.proofs.Seeing.{seen_step}
 use Rattle.text_lines.proofs.Quickly.{quick_blanks}
-
--- A byte and the one behind it.
-module _ (b x : ℕ) where
-  pub begins_slash : b ≡ byte "/" → not (eqb x (byte "*")) ≡ true → Begins b x
-  begins_slash z n = record {
-    no_hash = λ y. omega arith;
-    no_backslash = λ y. omega arith;
-    no_comment = λ y e. false≢true (ap not (sym (eq-eqb x (byte "*") e)) ∙ n);
-  }
-
-  pub begins_other : (b ≡ byte "#" → ⊥) → (b ≡ byte "/" → ⊥) → not (eqb b (byte "\\")) ≡ true → Begins b x
-  begins_other n m k = record { no_hash = n; no_backslash = λ e. false≢true (ap not (sym (eq-eqb b (byte "\\") e)) ∙ k); no_comment = λ e. absurd (m e) }
 
 -- The line from a place on is text, if it is so behind its blanks.
 module _ (s : List ℕ) (at : ℕ) (t : code.Token) (e : told t ≡ from whitespace 0 at s) where

@@ -98,9 +98,6 @@ module _ (s t₀ t : List ℕ) (f : Bool) (i n : ℕ) (k : Listing s t₀ t f i 
         → Listing s t₀ t₁ r.next.input.angle r.next.input.at n₁
     another = another_by stepped
 
-  pub place_fits : length s ≤ longest_source → Fits w32 i
-  place_fits b = omega (arith, k.within)
-
   pub kept : length t ≡ length t₀
   kept = k.laid.long_kept
 

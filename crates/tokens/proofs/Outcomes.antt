@@ -3,8 +3,8 @@ use Rattle.std.specs.Prelude.{⊤, Result, Ok, Err, is_err, IfOk}
 use mathlib.Core.Bool.{true, false, false≢true}
 use Prim.Native.Nat.{ℕ, ◌*◌, ◌/◌, ◌-◌, ◌≤◌, ◌<◌}
 use native.Mathlib.Omega.{arith}
-use mathlib.Core.Path.{◌≡◌, refl, ap, sym, ◌∙◌}
-use mathlib.Core.List.{List, []}
+use mathlib.Core.Path.{◌≡◌, ap, sym, ◌∙◌}
+use mathlib.Core.List.{List}
 use mir.Val.{Fits}
 use mir.Syntax.{w32}
 use lib.ListN.{length, take, drop}
