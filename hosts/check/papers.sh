@@ -24,9 +24,9 @@ parts() {
     ! grep . "$work/broken"
 }
 
-# Names of code: `crate::module::name`, `crate::name`.
+# Names of code: `crate::module::name`, `crate::name`; not those of DESIGN-PASS.md, which has old names beside the new.
 names() {
-    for name in $(grep -oh '`[a-z_]*::[A-Za-z_:]*`' docs/*.md | tr -d '`' | sort -u); do
+    for name in $(find docs -maxdepth 1 -name '*.md' ! -name DESIGN-PASS.md -exec grep -oh '`[a-z_]*::[A-Za-z_:]*`' {} + | tr -d '`' | sort -u); do
         crate=${name%%::*} last=${name##*::} rest=${name#*::}
         [ -d "crates/$crate/src" ] || continue
         [ ! -f "crates/$crate/src/$last.rt" ] || continue
