@@ -32,7 +32,7 @@ names() {
         [ ! -f "crates/$crate/src/$last.rt" ] || continue
         from=crates/$crate/src/${rest%%::*}.rt
         [ -f "$from" ] || from=crates/$crate/src/lib.rt
-        grep -qE "\\<(fn|struct|const|enum) $last\\>|^    $last [{]" "$from" || echo "$name is not in $from"
+        grep -qE "\\<(fn|struct|const|enum|type) $last\\>|^    $last [{]" "$from" || echo "$name is not in $from"
     done >"$work/broken"
     ! grep . "$work/broken"
 }
