@@ -25,21 +25,6 @@ pub enum Call {
     Body,
 }
 
-impl Call {
-    // The name of the call's file.
-    pub fn name(self) -> &'static str {
-        match self {
-            Call::Tokens => "tokens",
-            Call::Lines => "lines",
-            Call::Unescape => "unescape",
-            Call::Lookup => "lookup",
-            Call::Paste => "paste",
-            Call::Read => "read",
-            Call::Body => "body",
-        }
-    }
-}
-
 // Fills a table by a call, and compares the outcome.
 fn filled<'a, T: Copy + Into<u32>, F: FnOnce(&[u8], &mut [T]) -> Counted>(
     call: F,
