@@ -17,9 +17,11 @@ use Rattle.parser.specs.declared.Seen.{Seen}
 use Rattle.parser.specs.Rest.{leaf_seen, unread}
 use Rattle.parser.proofs.Taking.{none_seen, one_seen}
 use Rattle.parser_run.specs.declared.ParserRun.{ParserRun}
-use Rattle.parser_run.specs.Reads.{stand, Quiet}
-use Rattle.parser_run.specs.Expects.{either, missed, expect_any, Expects}
-use Rattle.parser_run.proofs.Laws.{reads_is, bump_rowed}
+use Rattle.parser_run.specs.declared.Parser.{Parser}
+use Rattle.parser_run.specs.Parses.{source_of, Parses, Finds}
+use Rattle.parser_run.specs.Expects.{either, missed, expect_any}
+use Rattle.parser_run.proofs.Parsing.{parses_is, finds_parse}
+use Rattle.parser_run.proofs.Laws.{bump_rowed}
 use Rattle.parser_run.proofs.Parts.{any_leaf, is_tested, seen_tested, inline_errs}
 use Rattle.args.specs.Args.{dirty, opening, closing, place, Lists}
 
@@ -94,19 +96,18 @@ at_argument : (src : List ℕ) (f : Bool) (st : ParserRun) {x : Seen} → x ≡ 
     → (f && peek (is Kind.IDENT_KW) (unread src st.run.seen)) ≡ y
 at_argument src f st s q = ap (λ b. f && b) (seen_tested src st s (is_tested Kind.IDENT_KW (λ w. absurd (omega arith))) refl) ∙ sym q
 
-module _ {src : List ℕ} (f : Bool) {st : ParserRun} {x : Seen} (s : x ≡ st.run.seen) {y : Bool} (q : y ≡ opening f x.kind) where
-  pub place_node : {t o e t' o' : List ℕ} {st' : ParserRun} → y ≡ true → Quiet src (wrap Kind.PP_DEFINE_ARG bump) t o st t' o' st'
-      → Lists src (place (length src) f) (stand t o e st) (stand t' o' e st') false
+module _ (f : Bool) {s : Parser} {x : Seen} (g : x ≡ s.state.run.seen) {y : Bool} (q : y ≡ opening f x.kind) where
+  pub place_node : {s₁ : Parser} → y ≡ true → Parses (wrap Kind.PP_DEFINE_ARG bump) s s₁ → Lists (place (length (source_of s)) f) s s₁ false
   unfolding place wrap
-  place_node {e = e} i z =
-      let us = unread src st.run.seen in
-      let h : place (length src) f us ≡ wrap Kind.PP_DEFINE_ARG bump us = rw (at_argument src f st s q ∙ i) refl in
-      record { reads = reads_is (z.reads e) h; bad_is = rw (h, bump_rowed.errs us) refl }
+  place_node i z =
+      let us = unread (source_of s) s.state.run.seen in
+      let h : place (length (source_of s)) f us ≡ wrap Kind.PP_DEFINE_ARG bump us = rw (at_argument (source_of s) f s.state g q ∙ i) refl in
+      record { parses = parses_is z h; bad_is = rw (h, bump_rowed.errs us) refl }
 
-  pub place_any : {w : ℕ} {t o e t' e' : List ℕ} {st' : ParserRun} {found : Bool} → y ≡ false → w ≡ wanted f → Expects src w Kind.RPAREN t e st t' e' st' found
-      → Lists src (place (length src) f) (stand t o e st) (stand t' o e' st') (not found)
+  pub place_any : {w : ℕ} {s₁ : Parser} {found : Bool} → y ≡ false → w ≡ wanted f → Finds w Kind.RPAREN s s₁ found → Lists (place (length (source_of s)) f) s s₁ (not found)
   unfolding place
-  place_any {w} {o = o} {found = found} i j z =
-      let us = unread src st.run.seen in
-      let h : place (length src) f us ≡ expect_any (length src) w Kind.RPAREN us = rw (at_argument src f st s q ∙ i, j) refl in
-      record { reads = reads_is (z.flat.reads o) h; bad_is = ap not z.found_is ∙ sym (dirty_any (length src) w Kind.RPAREN us) ∙ ap dirty (sym h) }
+  place_any {w} {found = found} i j z =
+      let n = length (source_of s) in
+      let us = unread (source_of s) s.state.run.seen in
+      let h : place n f us ≡ expect_any n w Kind.RPAREN us = rw (at_argument (source_of s) f s.state g q ∙ i, j) refl in
+      record { parses = parses_is (finds_parse z) h; bad_is = ap not z.expects.found_is ∙ sym (dirty_any n w Kind.RPAREN us) ∙ ap dirty (sym h) }

@@ -1,10 +1,12 @@
 -- The argument list of a `define`, one place after the other; first: an identifier's place, else a comma's.
-use Rattle.std.specs.Prelude.{ℕ, ◌≡◌, Bool, true, false, ◌||◌, ◌&&◌, List, [], ◌∷◌, eqb, if◌then◌else◌}
+use Rattle.std.specs.Prelude.{ℕ, ◌≡◌, Bool, true, false, ◌||◌, ◌&&◌, [], ◌∷◌, eqb, if◌then◌else◌}
 use Rattle.definition.specs.Text.{Kind}
 use Rattle.definition.specs.Parser.{is, peek, Got, Reader, wrap, bump}
 use Rattle.definition.specs.Syntax.{wanted}
 use Rattle.theorems.specs.BodyRows.{ends}
-use Rattle.parser_run.specs.Reads.{Stand, unread_at, Reads}
+use Rattle.parser.specs.Rest.{unread}
+use Rattle.parser_run.specs.declared.Parser.{Parser}
+use Rattle.parser_run.specs.Parses.{source_of, Parses}
 use Rattle.parser_run.specs.Expects.{expect_any}
 
 abbrev pub dirty : Got → Bool  -- Whether an error was met.
@@ -21,6 +23,6 @@ unfoldable pub place : ℕ → Bool → Reader
 place n first ts = if first && peek (is Kind.IDENT_KW) ts then wrap Kind.PP_DEFINE_ARG bump ts else expect_any n (wanted first) Kind.RPAREN ts
 
 -- The contract of a function that reads as p does and tells whether it met an error.
-pub record Lists (src : List ℕ) (p : Reader) (m m' : Stand) (bad : Bool) : Type 0 where
-  pub reads : Reads src p m m'
-  pub bad_is : bad ≡ dirty (p (unread_at src m))
+pub record Lists (p : Reader) (s s' : Parser) (bad : Bool) : Type 0 where
+  pub parses : Parses p s s'
+  pub bad_is : bad ≡ dirty (p (unread (source_of s) s.state.run.seen))

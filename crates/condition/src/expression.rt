@@ -28,8 +28,8 @@ impl<'a> Reader<'a> {
     // An operand with its signs and brackets.
     #[cycle(bracket_expression_unary)]
     fn unary(&self, x: Seen, depth: u32) -> Option<Step>
-        requires { Stands self.now.src.now x }
-        ensures { Gets self.now.src.now (operand_of (worth self.now.list.now self.now.text.now) depth (left self.now.src.now x)) result }
+        requires { Stands self.now.source.src.now x }
+        ensures { Gets self.now.source.src.now (operand_of (worth self.now.list.now self.now.text.now) depth (left self.now.source.src.now x)) result }
     {
         if signs::is_sign(x.kind) {
             if depth == 0 {
@@ -55,8 +55,8 @@ impl<'a> Reader<'a> {
     // What a bracket holds, and its end.
     #[cycle(bracket_expression_unary)]
     fn bracket(&self, x: Seen, depth: u32) -> Option<Step>
-        requires { Stands self.now.src.now x }
-        ensures { Gets self.now.src.now (expression_of (worth self.now.list.now self.now.text.now) depth 0 (left self.now.src.now x) ▸ shut) result }
+        requires { Stands self.now.source.src.now x }
+        ensures { Gets self.now.source.src.now (expression_of (worth self.now.list.now self.now.text.now) depth 0 (left self.now.source.src.now x) ▸ shut) result }
     {
         let a = self.expression(x, depth, 0)?;
         if !leaf::is(a.next, Kind::RPAREN) {
@@ -69,8 +69,8 @@ impl<'a> Reader<'a> {
     // An expression whose operators outside brackets have this rank, counted from 0, or a higher one.
     #[cycle(bracket_expression_unary)]
     pub fn expression(&self, x: Seen, depth: u32, rank: u32) -> Option<Step>
-        requires { Stands self.now.src.now x }
-        ensures { Gets self.now.src.now (expression_of (worth self.now.list.now self.now.text.now) depth rank (left self.now.src.now x)) result }
+        requires { Stands self.now.source.src.now x }
+        ensures { Gets self.now.source.src.now (expression_of (worth self.now.list.now self.now.text.now) depth rank (left self.now.source.src.now x)) result }
     {
         let mut a = self.unary(x, depth)?;
         while let Some(above) = higher(a.next.kind, rank) {

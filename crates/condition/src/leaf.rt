@@ -17,24 +17,24 @@ pub fn is(x: Seen, kind: u8) -> bool
 impl<'a> Reader<'a> {
     // The first leaf.
     pub fn first(&self) -> Seen
-        ensures { Follows self.now.src.now 0 false result }
+        ensures { Follows self.now.source.src.now 0 false result }
     {
-        trivia::behind(self.src, self.classes, 0, false).next
+        trivia::behind(self.source, 0, false).next
     }
 
     // The leaf behind one that is seen.
     pub fn next(&self, x: Seen) -> Seen
-        ensures { Follows self.now.src.now x.end x.angle result }
+        ensures { Follows self.now.source.src.now x.end x.angle result }
     {
-        trivia::behind(self.src, self.classes, x.end, x.angle).next
+        trivia::behind(self.source, x.end, x.angle).next
     }
 
     // The bytes of a leaf that is seen.
     pub fn bytes(&self, x: Seen) -> &'a [u8]
-        requires held { Held self.now.src.now x }
+        requires held { Held self.now.source.src.now x }
         requires some { x.kind ≡ 0 → ⊥ }
-        ensures { result.now ≡ (leaf_seen self.now.src.now x).bytes }
+        ensures { result.now ≡ (leaf_seen self.now.source.src.now x).bytes }
     {
-        &self.src[x.start as usize..x.end as usize]
+        &self.source.src[x.start as usize..x.end as usize]
     }
 }

@@ -5,17 +5,16 @@ pub mod expression;
 pub mod leaf;
 pub mod operand;
 
-ghost use Rattle.std.specs.Prelude.{◌≡◌, ◌≤◌, length};
-ghost use Rattle.definition.specs.Calls.{longest_source};
+ghost use Rattle.std.specs.Prelude.{◌≡◌};
+ghost use Rattle.definition.specs.Calls.{refusal, source_checks};
 ghost use Rattle.definition.specs.Condition.Valuing.{valuing};
-ghost use Rattle.pre.specs.Table.{class_table};
 ghost use Rattle.arithmetic.specs.Told.{told};
 ghost use Rattle.condition.specs.Promise.{Values};
 
 use arithmetic::Value;
 use parser::Seen;
+use parser::source::Source;
 use pre::class;
-use pre::class::Classes;
 use text::refusal::Refusal;
 use text::source;
 
@@ -28,12 +27,9 @@ const END: u8 = 0;
 // A source that is read with the table of classes, and the list of names, which stand in the second text.
 #[derive(Clone, Copy)]
 pub struct Reader<'a> {
-    pub src: &'a [u8],
-    pub classes: &'a Classes,
+    pub source: Source<'a>,
     pub list: &'a [u32],
     pub text: &'a [u8],
-    pub ghost table: { classes.now ≡ class_table },
-    pub ghost short: { length src.now ≤ longest_source },
 }
 
 // An expression that was read: what it comes to, and the leaf behind it.
@@ -43,18 +39,12 @@ pub struct Step {
     pub value: Result<i32, Refusal>,
 }
 
-// What the source comes to; nothing may follow the expression.
-fn outcome(src: &[u8], list: &[u32], text: &[u8]) -> Result<i32, Refusal>
-    ensures { told result ≡ valuing src.now list.now text.now }
+// What a source that is not refused comes to; nothing may follow the expression.
+fn whole<'x>(source: Source<'x>, list: &'x [u32], text: &'x [u8]) -> Result<i32, Refusal>
+    requires { 0 ≡ refusal (source_checks source.src.now) }
+    ensures { told result ≡ valuing source.entry.src.now list.now text.now }
 {
-    source::check(src)?;
-    let classes = class::class_table();
-    let reader = Reader {
-        src,
-        classes: &classes,
-        list,
-        text,
-    };
+    let reader = Reader { source, list, text };
     let x = reader.first();
     let Some(a) = reader.expression(x, MOST_OPEN, 0) else {
         return Err(Refusal::Expression);
@@ -63,6 +53,19 @@ fn outcome(src: &[u8], list: &[u32], text: &[u8]) -> Result<i32, Refusal>
         return Err(Refusal::Expression);
     }
     a.value
+}
+
+// What the source comes to.
+fn outcome(src: &[u8], list: &[u32], text: &[u8]) -> Result<i32, Refusal>
+    ensures { told result ≡ valuing src.now list.now text.now }
+{
+    source::check(src)?;
+    let classes = class::class_table();
+    let source = Source {
+        src,
+        classes: &classes,
+    };
+    whole(source, list, text)
 }
 
 // The value of an expression; names stand in the second text, by four numbers each.

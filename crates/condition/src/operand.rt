@@ -23,17 +23,17 @@ fn no_literal(value: Result<i32, Refusal>) -> bool
 impl<'a> Reader<'a> {
     // Whether a name is in the list.
     fn listed(&self, x: Seen) -> Result<i32, Refusal>
-        requires held { Held self.now.src.now x }
+        requires held { Held self.now.source.src.now x }
         requires some { x.kind ≡ 0 → ⊥ }
-        ensures { told result ≡ listed (look_in self.now.list.now self.now.text.now (word (leaf_seen self.now.src.now x))) }
+        ensures { told result ≡ listed (look_in self.now.list.now self.now.text.now (word (leaf_seen self.now.source.src.now x))) }
     {
         Ok(i32::from(names::is_listed(self.list, self.text, self.bytes(x))))
     }
 
     // The name behind `defined (`, and the bracket's end.
     fn defined_in(&self, x: Seen) -> Option<Step>
-        requires { Stands self.now.src.now x }
-        ensures { Gets self.now.src.now (asked_in (worth self.now.list.now self.now.text.now) (left self.now.src.now x)) result }
+        requires { Stands self.now.source.src.now x }
+        ensures { Gets self.now.source.src.now (asked_in (worth self.now.list.now self.now.text.now) (left self.now.source.src.now x)) result }
     {
         if !leaf::is(x, Kind::IDENT_KW) {
             return None;
@@ -49,8 +49,8 @@ impl<'a> Reader<'a> {
 
     // What is behind `defined`: a name, in brackets or not.
     fn defined(&self, x: Seen) -> Option<Step>
-        requires { Stands self.now.src.now x }
-        ensures { Gets self.now.src.now (asked (worth self.now.list.now self.now.text.now) (left self.now.src.now x)) result }
+        requires { Stands self.now.source.src.now x }
+        ensures { Gets self.now.source.src.now (asked (worth self.now.list.now self.now.text.now) (left self.now.source.src.now x)) result }
     {
         match x.kind {
             Kind::IDENT_KW => Some(Step {
@@ -64,9 +64,9 @@ impl<'a> Reader<'a> {
 
     // A DIGITS leaf, which must be a literal.
     fn number(&self, x: Seen) -> Option<Step>
-        requires stands { Stands self.now.src.now x }
+        requires stands { Stands self.now.source.src.now x }
         requires some { x.kind ≡ 0 → ⊥ }
-        ensures { Gets self.now.src.now (numbered (left self.now.src.now x)) result }
+        ensures { Gets self.now.source.src.now (numbered (left self.now.source.src.now x)) result }
     {
         let value = literal::literal(self.bytes(x));
         if no_literal(value) {
@@ -78,8 +78,8 @@ impl<'a> Reader<'a> {
 
     // An operand without signs and brackets.
     pub fn operand(&self, x: Seen) -> Option<Step>
-        requires { Stands self.now.src.now x }
-        ensures { Gets self.now.src.now (simple (worth self.now.list.now self.now.text.now) (left self.now.src.now x)) result }
+        requires { Stands self.now.source.src.now x }
+        ensures { Gets self.now.source.src.now (simple (worth self.now.list.now self.now.text.now) (left self.now.source.src.now x)) result }
     {
         match x.kind {
             Kind::DIGITS => self.number(x),

@@ -2,61 +2,39 @@
 ghost use Rattle.std.specs.Prelude.{◌≡◌, true, length};
 ghost use Rattle.definition.specs.Tree.{body_kind};
 ghost use Rattle.definition.specs.Syntax.{pp_body as Syntax·pp_body, pp_include as Syntax·pp_include, relexed};
-ghost use Rattle.parser.specs.Rest.{Reading};
-ghost use Rattle.parser_run.specs.Reads.{Quiet};
+ghost use Rattle.parser_run.specs.Parses.{source_of, Parses};
 ghost use Rattle.directives.specs.Again.{Again};
 
 use parser::Seen;
-use parser_run::ParserRun;
-use pre::class::Classes;
+use parser_run::Parser;
 use syntax_kind::number::Kind;
-use tree::level::OPEN_LEVELS;
 
-// Sees a leaf once more, where an angle string is expected (`set_expect_angle_string`).
-fn again(src: &[u8], classes: &Classes, x: Seen) -> Seen
-    requires { Reading src.now classes.now x }
-    ensures { Again src.now x result }
+// Sees the leaf that is seen once more, where an angle string is expected (`set_expect_angle_string`).
+#[tactic(auto, using(crate::proofs::Bodies::again_none, crate::proofs::Bodies::again_seen))]
+fn again(p: &Parser) -> Seen
+    ensures { Again (source_of p.now) p.now.state.run.seen result }
 {
+    let x = p.peek();
     if x.kind == 0 {
         return x;
     }
-    parser::see(src, classes, x.start, true)
+    parser::see(p.source, x.start, true)
 }
 
 // Trivia, and a body of kind k.
-pub fn pp_body(
-    src: &[u8],
-    classes: &Classes,
-    table: &mut [u32],
-    levels: &mut [usize; OPEN_LEVELS],
-    state: ParserRun,
-    k: u8,
-) -> ParserRun
-    requires { (Reading src.now classes.now state.run.seen) × (body_kind k ≡ true) }
-    ensures { Quiet src.now (Syntax·pp_body k) table.old levels.old state table.new levels.new result }
+pub fn pp_body(p: &mut Parser, k: u8)
+    requires { body_kind k ≡ true }
+    ensures { Parses (Syntax·pp_body k) p.old p.new }
 {
-    let b = rows::body::pp_body(src, classes, table, levels, state.run, k);
-    let run = b.run;
-    ParserRun {
-        run,
-        errs: state.errs,
-        over: parser_run::worse(state.over, b.over),
-    }
+    let b = rows::body::pp_body(p.source, p.table, p.levels, p.state.run, k);
+    p.state.run = b.run;
+    p.state.over |= b.over;
 }
 
 // `include`: the path, where an angle string is expected.
-pub fn pp_include(
-    src: &[u8],
-    classes: &Classes,
-    table: &mut [u32],
-    levels: &mut [usize; OPEN_LEVELS],
-    state: ParserRun,
-) -> ParserRun
-    requires { Reading src.now classes.now state.run.seen }
-    ensures { Quiet src.now (Syntax·pp_include (length src.now) relexed) table.old levels.old state table.new levels.new result }
+pub fn pp_include(p: &mut Parser)
+    ensures { Parses (Syntax·pp_include (length (source_of p.old)) relexed) p.old p.new }
 {
-    let run = state.run;
-    let x = again(src, classes, run.seen);
-    let a = parser_run::with_run(state, parser::run_of(x, run.pen));
-    pp_body(src, classes, table, levels, a, Kind::PP_INCLUDE_PATH)
+    p.state.run.seen = again(p);
+    pp_body(p, Kind::PP_INCLUDE_PATH);
 }

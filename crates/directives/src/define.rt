@@ -1,48 +1,27 @@
 // `define` (`pp_define` of `syntax.rs`).
 ghost use Rattle.std.specs.Prelude.{length};
 ghost use Rattle.definition.specs.Syntax.{pp_define as Syntax·pp_define};
-ghost use Rattle.parser.specs.Rest.{Reading};
-ghost use Rattle.parser_run.specs.Reads.{stand, Reads};
+ghost use Rattle.parser_run.specs.Parses.{source_of, Parses};
 ghost use Rattle.directives.specs.Next.{define_head as Next·define_head};
 
 use crate::body;
-use parser_run::ParserRun;
-use pre::class::Classes;
+use parser_run::Parser;
 use syntax_kind::number::Kind;
-use tree::level::OPEN_LEVELS;
 
 // The name of a macro, and its arguments if LPAREN follows with no trivia.
-fn define_head(
-    src: &[u8],
-    classes: &Classes,
-    table: &mut [u32],
-    levels: &mut [usize; OPEN_LEVELS],
-    errors: &mut [u32],
-    state: ParserRun,
-) -> ParserRun
-    requires { Reading src.now classes.now state.run.seen }
-    ensures { Reads src.now (Next·define_head (length src.now)) (stand table.old levels.old errors.old state) (stand table.new levels.new errors.new result) }
+fn define_head(p: &mut Parser)
+    ensures { Parses (Next·define_head (length (source_of p.old))) p.old p.new }
 {
-    let a = crate::expect_next(src, classes, table, levels, errors, state, Kind::IDENT_KW);
-    let x = parser_run::peek(a);
-    if x.kind == Kind::LPAREN {
-        return args::define_args(src, classes, table, levels, errors, a);
+    crate::expect_next(p, Kind::IDENT_KW);
+    if p.peek().kind == Kind::LPAREN {
+        args::define_args(p);
     }
-    a
 }
 
 // `define`: the name with its arguments, and a body.
-pub fn pp_define(
-    src: &[u8],
-    classes: &Classes,
-    table: &mut [u32],
-    levels: &mut [usize; OPEN_LEVELS],
-    errors: &mut [u32],
-    state: ParserRun,
-) -> ParserRun
-    requires { Reading src.now classes.now state.run.seen }
-    ensures { Reads src.now (Syntax·pp_define (length src.now)) (stand table.old levels.old errors.old state) (stand table.new levels.new errors.new result) }
+pub fn pp_define(p: &mut Parser)
+    ensures { Parses (Syntax·pp_define (length (source_of p.old))) p.old p.new }
 {
-    let a = define_head(src, classes, table, levels, errors, state);
-    body::pp_body(src, classes, table, levels, a, Kind::PP_DEFINE_BODY)
+    define_head(p);
+    body::pp_body(p, Kind::PP_DEFINE_BODY);
 }

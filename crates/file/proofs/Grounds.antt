@@ -11,7 +11,6 @@ use Rattle.theorems.specs.Height.{crowded}
 use Rattle.theorems.proofs.Grammar.Clean.{or_left, or_right}
 use Rattle.theorems.proofs.Entries.{size_leaves}
 use Rattle.theorems.proofs.Items.{lies_behind}
-use Rattle.tree.specs.Machine.{run}
 use Rattle.tree.specs.Writes.{Ready, Wrote}
 use Rattle.tree.proofs.Writes.{writes}
 use Rattle.parser_run.specs.Reads.{Stand, writer_at, unread_at, Gives}

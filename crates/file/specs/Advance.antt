@@ -8,7 +8,9 @@ use Rattle.theorems.specs.Height.{height, open_levels, crowded}
 use Rattle.theorems.specs.Items.{items}
 use Rattle.theorems.proofs.Tiling.Tiles.{Tiles}
 use Rattle.parser.specs.Rest.{trivial}
+use Rattle.parser_run.specs.declared.Parser.{Parser}
 use Rattle.parser_run.specs.Reads.{Stand, unread_at, Reads}
+use Rattle.parser_run.specs.Parses.{source_of, stand_of, Kept}
 
 -- A reading that tiles its row, nests no deeper below ROOT than there are levels, and leaves less than it was given.
 pub record Fitting (g : Got) (ts : List Leaf) : Type 0 where
@@ -30,3 +32,8 @@ pub record Advances (src : List ℕ) (m m' : Stand) : Type 0 where
   pub reads : Reads src part m m'
   pub others : items_of src (unread_at src m) ≡ (part then items_of src) (unread_at src m)
   pub fitting : Fitting (part (unread_at src m)) (unread_at src m)
+
+-- The same of a parser.
+pub record Proceeds (s s' : Parser) : Type 0 where
+  pub kept : Kept s s'
+  pub advances : Advances (source_of s) (stand_of s) (stand_of s')

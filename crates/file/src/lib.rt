@@ -2,76 +2,86 @@
 #![tactic(auto)]
 
 ghost use Rattle.std.specs.Prelude.{◌≡◌, length};
-ghost use Rattle.parser.specs.Rest.{Reading};
+ghost use Rattle.parser.specs.Rest.{Held};
 ghost use Rattle.parser_run.specs.Reads.{stand, Reads};
+ghost use Rattle.parser_run.specs.Parses.{source_of, stand_of, Parses};
 ghost use Rattle.syntax.specs.Item.{hash_reader};
 ghost use Rattle.syntax.specs.Section.{Hashed};
 ghost use Rattle.file.specs.Ground.{Grounded};
-ghost use Rattle.file.specs.Advance.{begins_text, items_of, Advances};
+ghost use Rattle.file.specs.Advance.{begins_text, items_of, Proceeds};
 
+use parser::source::Source;
 use parser::trivia::Trivia;
-use parser_run::ParserRun;
-use pre::class::Classes;
+use parser_run::{Parser, ParserRun};
 use syntax_kind::number::Kind;
 use tree::level::OPEN_LEVELS;
 
-// A group or a directive, written into the unused tail of the table; before: the trivia before its HASH, which is passed over.
-fn hash_item(
-    src: &[u8],
-    classes: &Classes,
+// A group or a directive, into a table that is lent; before: the trivia before its HASH, which is passed over.
+fn lent_item(
+    source: Source,
     table: &mut [u32],
     levels: &mut [usize; OPEN_LEVELS],
     errors: &mut [u32],
     state: ParserRun,
     before: Trivia,
 ) -> ParserRun
-    requires { (Hashed src.now classes.now state.run.seen before) × (Grounded src.now (stand table.old levels.old errors.old state)) }
-    ensures { Reads src.now (hash_reader (length src.now)) (stand table.old levels.old errors.old state) (stand table.new levels.new errors.new result) }
+    requires held { Held source.src.now state.run.seen }
+    requires hashed { Hashed source.src.now state.run.seen before }
+    ensures { Reads source.entry.src.now (hash_reader (length source.entry.src.now)) (stand table.old levels.old errors.old state) (stand table.new levels.new errors.new result) }
 {
-    let run = state.run;
-    let pen = run.pen;
-    let room = table.len();
-    let from = tree::tail::start(room, pen.n);
-    let front = parser_run::with_run(state, parser::run_of(run.seen, pen.at_front(from)));
-    let r = syntax::section::if_section_or_control_line(
-        src,
-        classes,
-        &mut table[from..],
+    let mut p = Parser {
+        source,
+        table,
         levels,
         errors,
+        state,
+    };
+    syntax::section::if_section_or_control_line(&mut p, before);
+    p.state
+}
+
+// A group or a directive, written into the unused tail of the table.
+fn hash_item(p: &mut Parser, before: Trivia)
+    requires hashed { Hashed (source_of p.old) p.old.state.run.seen before }
+    requires ground { Grounded (source_of p.old) (stand_of p.old) }
+    ensures { Parses (hash_reader (length (source_of p.old))) p.old p.new }
+{
+    let pen = p.state.run.pen;
+    let room = p.table.len();
+    let from = tree::tail::start(room, pen.n);
+    let mut front = p.state;
+    front.run.pen = pen.at_front(from);
+    let last = lent_item(
+        p.source,
+        &mut p.table[from..],
+        p.levels,
+        p.errors,
         front,
         before,
     );
-    let last = r.run;
-    let back = tree::tail::rejoin(room, pen, last.pen);
-    parser_run::with_run(r, parser::run_of(last.seen, back))
+    p.state = last;
+    p.state.run.pen = tree::tail::rejoin(room, pen, last.run.pen);
 }
 
 // An item that begins with trivia, or with a HASH: a directive or a group, or text behind trivia, or trivia at the end of the source.
-fn item(
-    src: &[u8],
-    classes: &Classes,
-    table: &mut [u32],
-    levels: &mut [usize; OPEN_LEVELS],
-    errors: &mut [u32],
-    state: ParserRun,
-) -> ParserRun
-    requires { (Reading src.now classes.now state.run.seen) × ((Grounded src.now (stand table.old levels.old errors.old state)) × (state.run.seen.kind ≡ 0 → ⊥)) }
-    ensures { Advances src.now (stand table.old levels.old errors.old state) (stand table.new levels.new errors.new result) }
+fn item(p: &mut Parser)
+    requires ground { Grounded (source_of p.old) (stand_of p.old) }
+    requires some { p.old.state.run.seen.kind ≡ 0 → ⊥ }
+    ensures { Proceeds p.old p.new }
 {
-    let run = state.run;
-    let before = parser::trivia::buffer_trivia(src, classes, run.seen);
+    let run = p.state.run;
+    let before = parser::trivia::buffer_trivia(p.source, run.seen);
     let x = before.next;
-    if x.kind == Kind::HASH {
-        return hash_item(src, classes, table, levels, errors, state, before);
+    let directive = x.kind == Kind::HASH;
+    if directive {
+        return hash_item(p, before);
     }
-    let pen = parser::trivia::eat_trivia(src, classes, table, run.pen, before.first, x.start);
-    let behind = parser::run_of(x, pen);
+    let pen = parser::trivia::eat_trivia(p.source, p.table, run.pen, before.first, x.start);
+    p.state.run = parser::run_of(x, pen);
     if x.kind == 0 {
-        return parser_run::with_run(state, behind);
+        return;
     }
-    let last = text_lines::text_lines(src, classes, table, behind);
-    parser_run::with_run(state, last)
+    p.state.run = text_lines::text_lines(p.source, p.table, p.state.run);
 }
 
 // Whether an item that begins with a leaf of this kind is a text line.
@@ -85,28 +95,15 @@ fn is_text(kind: u8) -> bool
 }
 
 // Item after item. Text is taken here and not in `item` only: called from two places, `text_lines` stays a function of its own.
-pub fn file(
-    src: &[u8],
-    classes: &Classes,
-    table: &mut [u32],
-    levels: &mut [usize; OPEN_LEVELS],
-    errors: &mut [u32],
-    state: ParserRun,
-) -> ParserRun
-    requires { (Reading src.now classes.now state.run.seen) × (Grounded src.now (stand table.old levels.old errors.old state)) }
-    ensures { Reads src.now (items_of src.now) (stand table.old levels.old errors.old state) (stand table.new levels.new errors.new result) }
+pub fn file(p: &mut Parser)
+    requires { Grounded (source_of p.old) (stand_of p.old) }
+    ensures { Parses (items_of (source_of p.old)) p.old p.new }
 {
-    let mut held = state;
-    loop {
-        let x = parser_run::peek(held);
-        if x.kind == 0 {
-            return held;
-        }
-        if is_text(x.kind) {
-            let run = text_lines::text_lines(src, classes, table, held.run);
-            held = parser_run::with_run(held, run);
+    'items: while p.state.run.seen.kind != 0 {
+        if is_text(p.state.run.seen.kind) {
+            p.state.run = text_lines::text_lines(p.source, p.table, p.state.run);
         } else {
-            held = item(src, classes, table, levels, errors, held);
+            item(p);
         }
     }
 }

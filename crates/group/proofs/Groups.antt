@@ -1,13 +1,13 @@
 -- Groups, leaf by leaf: one count of open brackets serves both loops.
 use Rattle.std.specs.Prelude.{if◌then◌else◌}
 use Prim.Native.Nat.{ℕ, zero, suc, ◌+◌, ◌-◌, ◌≤◌, ◌<◌}
-use mathlib.Core.Path.{◌≡◌, refl, sym, ap, ◌∙◌}
+use mathlib.Core.Path.{◌≡◌, refl, sym, ap, subst, ◌∙◌}
 use mathlib.Core.Bool.{Bool, true, false}
 use mathlib.Core.List.{List, [], ◌∷◌}
 use mathlib.Core.Option.{Option, none, some}
 use native.Mathlib.Omega.{arith}
 use native.Mathlib.Numerals.{add-one}
-use borrow.Author.Tests.{ne_eqb, eq-eqb}
+use borrow.Author.Tests.{eq-eqb}
 use lib.Dec.{eqb}
 use lib.ListN.{length}
 use Rattle.definition.specs.Text.{Kind}
@@ -24,7 +24,10 @@ use Rattle.parser.specs.declared.Run.{Run}
 use Rattle.parser.specs.Rest.{run_of, leaf_seen, unread, Held, Sees, Takes}
 use Rattle.parser.proofs.Taking.{none_seen, one_seen}
 use Rattle.parser.proofs.Texts.{held_within}
-use Rattle.group.specs.Group.{brackets, group_at, none_met, closed}
+use Rattle.parser_run.specs.declared.Parser.{Parser}
+use Rattle.parser_run.specs.Parses.{source_of}
+use Rattle.parser_run.proofs.Parsing.{kept_same, kept_then, same_source}
+use Rattle.group.specs.Group.{brackets, group_at, none_met, closed, Aside, Gathers}
 
 -- What is left of a group where n brackets are open.
 unfoldable pub inside : Leaf → ℕ → Reader
@@ -69,10 +72,6 @@ inside_ahead : (l : Leaf) (n : ℕ) (ts : List Leaf) → (n ≡ 0 → ⊥) → i
 unfolding inside
 inside_ahead l zero ts z = absurd (z refl)
 inside_ahead l (suc d) ts z = sym (ahead_inside l d ts)
-
--- No bracket is open where none was.
-pub brackets_none : (k n : ℕ) → (k ≡ Kind.LPAREN → ⊥) → k ≡ Kind.RPAREN → n ≡ 0 → 0 ≡ brackets k n
-brackets_none k n a b e = rw (ne_eqb k Kind.LPAREN a, eq-eqb k Kind.RPAREN b, e) refl
 
 -- A leaf opens one bracket at most.
 brackets_most : (k n : ℕ) → brackets k n ≤ n + 1
@@ -136,12 +135,11 @@ module _ {src : List ℕ} {l : Leaf} {g : Got} {n : ℕ} {x : Seen} (i : Countin
 pub record Grouping (src : List ℕ) (l : Leaf) (g : Got) (t₀ : List ℕ) (p₀ : Pen) (n : ℕ) (x : Seen) (t : List ℕ) (p : Pen) : Type 0 where
   pub at : Counting src l g n x
   pub tree : leafs (sheet t p) (leaves (ahead l n (unread src x)).tree) ≡ leafs (sheet t₀ p₀) (leaves g.tree)
-  pub long : length t ≡ length t₀
 
 pub grouping_start : (src t : List ℕ) (p : Pen) (x : Seen) → Held src x → x.kind ≡ Kind.LPAREN
     → Grouping src (leaf_seen src x) (group_at src x (unread src x)) t p 0 x t p
 grouping_start src t p x h k =
-    record { at = counting_start src x h k; tree = ap (λ h. leafs (sheet t p) (leaves h.tree)) (from_lparen src x k); long = refl }
+    record { at = counting_start src x h k; tree = ap (λ h. leafs (sheet t p) (leaves h.tree)) (from_lparen src x k) }
 
 -- A leaf more went to the writer.
 module _ {src : List ℕ} {l : Leaf} {g : Got} {t₀ : List ℕ} {p₀ : Pen} {n : ℕ} {x : Seen} {t : List ℕ} {p : Pen} (i : Grouping src l g t₀ p₀ n x t p) (z : x.kind ≡ 0 → ⊥)
@@ -153,11 +151,10 @@ module _ {src : List ℕ} {l : Leaf} {g : Got} {t₀ : List ℕ} {p₀ : Pen} {n
       ap (λ v. leafs v us) (w ∙ ap (λ b. leafed x.kind x.start b (sheet t p)) (sym (i.at.held z).0))
       ∙ ap (λ h. leafs (sheet t p) (leaves h.tree)) (sym (behind i.at z e)) ∙ i.tree
 
-  pub grouping_more : {y : Seen} → Sees src x.end x.angle y → (k ≡ 0 → ⊥) → length t' ≡ length t → Grouping src l g t₀ p₀ k y t' p'
-  grouping_more {y} s o q = record {
+  pub grouping_more : {y : Seen} → Sees src x.end x.angle y → (k ≡ 0 → ⊥) → Grouping src l g t₀ p₀ k y t' p'
+  grouping_more {y} s o = record {
     at = counting_more i.at z e s o;
     tree = ap (λ h. leafs (sheet t' p') (leaves h.tree)) (sym (inside_ahead l k (unread src y) o) ∙ ap (inside l k) s.rest) ∙ tree_behind;
-    long = q ∙ i.long;
   }
 
 -- The group is closed, or the source is at its end.
@@ -177,3 +174,48 @@ module _ {src t₀ : List ℕ} {r₀ : Run} {n : ℕ} {x : Seen} {t : List ℕ} 
     rest = s.rest ∙ rw c at (sym (ap (λ h. h.rest) (behind i.at z e)) ∙ i.at.rest);
     held = s.held;
   })
+
+-- The same of a parser: nothing but the leaves and the place of the reading changed.
+aside_same : (s : Parser) → Aside s s
+aside_same s = record { kept = kept_same s; levels = refl; errors = refl; errs = refl; over = refl }
+
+aside_then : {s s' s'' : Parser} → Aside s s' → Aside s' s'' → Aside s s''
+aside_then x y = record {
+  kept = kept_then x.kept y.kept;
+  levels = y.levels ∙ x.levels;
+  errors = y.errors ∙ x.errors;
+  errs = y.errs ∙ x.errs;
+  over = y.over ∙ x.over;
+}
+
+pub record Gathering (s₀ : Parser) (n : ℕ) (s : Parser) : Type 0 where
+  pub aside : Aside s₀ s
+  pub group : Grouping (source_of s₀) (leaf_seen (source_of s₀) s₀.state.run.seen)
+      (group_at (source_of s₀) s₀.state.run.seen (unread (source_of s₀) s₀.state.run.seen)) s₀.table.now s₀.state.run.pen n s.state.run.seen s.table.now s.state.run.pen
+
+pub gathering_start : (s : Parser) → s.state.run.seen.kind ≡ Kind.LPAREN → Gathering s 0 s
+gathering_start s k = record { aside = aside_same s; group = grouping_start (source_of s) s.table.now s.state.run.pen s.state.run.seen s.held k }
+
+-- One leaf further.
+module _ {s₀ s : Parser} {n : ℕ} (i : Gathering s₀ n s) where
+  pub gathering_end : s.state.run.seen.kind ≡ 0 → Gathers (group_at (source_of s₀) s₀.state.run.seen) s₀ s
+  gathering_end e = record { aside = i.aside; takes = grouping_end {r₀ = s₀.state.run} i.group e refl }
+
+  module _ (z : s.state.run.seen.kind ≡ 0 → ⊥) where
+    pub gathering_few : n ≤ longest_source
+    gathering_few = counting_few i.group.at z s₀.source.short
+
+    module _ {x : Seen} (q : x ≡ s.state.run.seen) {k : ℕ} (e : k ≡ brackets x.kind n) where
+      next : {y : Seen} → Sees (source_of s) x.end x.angle y → Sees (source_of s₀) s.state.run.seen.end s.state.run.seen.angle y
+      next {y} v = subst (λ l. Sees l s.state.run.seen.end s.state.run.seen.angle y) (same_source i.aside.kept) (rw q at v)
+
+      pub gathering_fewer : {y : Seen} → Sees (source_of s) x.end x.angle y → length (unread (source_of s) y) < length (unread (source_of s) s.state.run.seen)
+      gathering_fewer v = rw (same_source i.aside.kept) (counting_fewer i.group.at z (rw q at e) (next v))
+
+      module _ {s' : Parser} (a : Aside s s') (w : sheet s'.table.now s'.state.run.pen ≡ leafed x.kind x.start x.end (sheet s.table.now s.state.run.pen))
+          (v : Sees (source_of s) x.end x.angle s'.state.run.seen) where
+        pub gathering_closed : k ≡ 0 → Gathers (group_at (source_of s₀) s₀.state.run.seen) s₀ s'
+        gathering_closed c = record { aside = aside_then i.aside a; takes = grouping_closed {r₀ = s₀.state.run} i.group z (rw q at e) (rw q at w) (next v) c refl }
+
+        pub gathering_more : (k ≡ 0 → ⊥) → Gathering s₀ k s'
+        gathering_more o = record { aside = aside_then i.aside a; group = grouping_more i.group z (rw q at e) (rw q at w) (next v) o }

@@ -1,12 +1,14 @@
 -- Groups: brackets counted leaf by leaf, and whether a group closes.
-use Rattle.std.specs.Prelude.{ℕ, ◌+◌, ◌-◌, Bool, true, false, List, [], ◌∷◌, eqb, if◌then◌else◌}
+use Rattle.std.specs.Prelude.{ℕ, ◌≡◌, ◌+◌, ◌-◌, Bool, true, false, List, [], ◌∷◌, eqb, if◌then◌else◌}
 use Rattle.std.proofs.Math.Option.{none, some}
 use Rattle.definition.specs.Text.{Kind}
 use Rattle.definition.specs.Error.{Err}
 use Rattle.definition.specs.Parser.{Got, Reader, ◌then◌, bump}
 use Rattle.definition.specs.Syntax.{pp_rs_ident, Line}
 use Rattle.parser.specs.declared.Seen.{Seen}
-use Rattle.parser.specs.Rest.{leaf_seen}
+use Rattle.parser.specs.Rest.{leaf_seen, Takes}
+use Rattle.parser_run.specs.declared.Parser.{Parser}
+use Rattle.parser_run.specs.Parses.{source_of, Kept}
 
 -- How many brackets are open behind a leaf of kind k, where n are open before it.
 abbrev pub brackets : ℕ → ℕ → ℕ
@@ -24,3 +26,16 @@ closed g = none_met g.errs
 
 abbrev pub nodeless : Line → Bool  -- Only a closed group has no node.
 nodeless l = elim l.node_kind [ none ↦ true | some k ↦ false ]
+
+-- Nothing but the entry table and the place of the reading changed.
+pub record Aside (s s' : Parser) : Type 0 where
+  pub kept : Kept s s'
+  pub levels : s'.levels.now ≡ s.levels.now
+  pub errors : s'.errors.now ≡ s.errors.now
+  pub errs : s'.state.errs ≡ s.state.errs
+  pub over : s'.state.over ≡ s.state.over
+
+-- Leaves are taken as p takes them; an error that it meets is not logged.
+pub record Gathers (p : Reader) (s s' : Parser) : Type 0 where
+  pub aside : Aside s s'
+  pub takes : Takes (source_of s) p s.table.now s.state.run s'.table.now s'.state.run

@@ -3,14 +3,15 @@
 
 ghost use Rattle.std.specs.Prelude.{◌≡◌, ◌≤◌, length};
 ghost use Rattle.definition.specs.SyntaxKind.{Kind as SyntaxKind};
-ghost use Rattle.definition.specs.Parser as reader;
 ghost use Rattle.definition.specs.Calls.{longest_source};
 ghost use Rattle.definition.specs.Syntax.{control_line, relexed};
-ghost use Rattle.parser.specs.Rest.{unread, Reading, Takes};
-ghost use Rattle.group.specs.Group.{brackets, group_at, closed, nodeless};
+ghost use Rattle.parser.specs.Rest.{unread, Held};
+ghost use Rattle.parser_run.specs.Parses.{source_of};
+ghost use Rattle.group.specs.Group.{brackets, group_at, closed, nodeless, Gathers};
 
-use parser::{Run, Seen};
-use pre::class::Classes;
+use parser::Seen;
+use parser::source::Source;
+use parser_run::Parser;
 use syntax_kind::number::Kind;
 
 // How many brackets are open behind a leaf of this kind.
@@ -18,43 +19,35 @@ fn brackets(kind: u8, count: u32) -> u32
     requires { count ≤ longest_source }
     ensures { result ≡ brackets kind count }
 {
-    if kind == Kind::LPAREN {
-        return count + 1;
+    match kind {
+        Kind::LPAREN => count + 1,
+        Kind::RPAREN => count.saturating_sub(1),
+        _ => count,
     }
-    if kind == Kind::RPAREN {
-        if count == 0 {
-            return 0;
-        }
-        return count - 1;
-    }
-    count
 }
 
-// Takes a group from its LPAREN on, up to the matching RPAREN or the end.
-pub fn pp_rs_ident(src: &[u8], classes: &Classes, table: &mut [u32], run: Run) -> Run
-    requires { (Reading src.now classes.now run.seen) × (run.seen.kind ≡ SyntaxKind.LPAREN) }
-    ensures { Takes src.now (group_at src.now run.seen) table.old run table.new result }
+// Takes a group from its LPAREN on, which is seen, up to the matching RPAREN or the end.
+pub fn pp_rs_ident(p: &mut Parser)
+    requires { p.old.state.run.seen.kind ≡ SyntaxKind.LPAREN }
+    ensures { Gathers (group_at (source_of p.old) p.old.state.run.seen) p.old p.new }
 {
-    let mut pen = run.pen;
-    let mut x = run.seen;
     let mut count: u32 = 0;
-    loop {
-        if x.kind == 0 {
-            return parser::run_of(x, pen);
-        }
-        pen = parser::leaf(table, pen, x);
+    while p.state.run.seen.kind != 0 {
+        let x = p.peek();
         count = brackets(x.kind, count);
-        x = parser::see(src, classes, x.end, x.angle);
+        p.state.run.pen = parser::leaf(p.table, p.state.run.pen, x);
+        p.state.run.seen = parser::see(p.source, x.end, x.angle);
         if count == 0 {
-            return parser::run_of(x, pen);
+            return;
         }
     }
 }
 
 // Whether the group from its LPAREN on, x, closes.
-fn closes(src: &[u8], classes: &Classes, x: Seen) -> bool
-    requires { (Reading src.now classes.now x) × (x.kind ≡ SyntaxKind.LPAREN) }
-    ensures { result ≡ closed (group_at src.now x (unread src.now x)) }
+fn closes(source: Source, x: Seen) -> bool
+    requires held { Held source.src.now x }
+    requires opened { x.kind ≡ SyntaxKind.LPAREN }
+    ensures { result ≡ closed (group_at source.entry.src.now x (unread source.entry.src.now x)) }
 {
     let mut y = x;
     let mut count: u32 = 0;
@@ -63,18 +56,16 @@ fn closes(src: &[u8], classes: &Classes, x: Seen) -> bool
         if count == 0 {
             return true;
         }
-        y = parser::see(src, classes, y.end, y.angle);
+        y = parser::see(source, y.end, y.angle);
     }
     false
 }
 
 // Whether a closed group follows a HASH and its trivia: it has no node.
-pub fn is_group(src: &[u8], classes: &Classes, x: Seen) -> bool
-    requires { Reading src.now classes.now x }
-    ensures { result ≡ nodeless (control_line (length src.now) relexed (unread src.now x)) }
+#[tactic(auto, using(crate::proofs::Lines::is_group, crate::proofs::Lines::no_group))]
+pub fn is_group(source: Source, x: Seen) -> bool
+    requires { Held source.src.now x }
+    ensures { result ≡ nodeless (control_line (length source.entry.src.now) relexed (unread source.entry.src.now x)) }
 {
-    if x.kind == Kind::LPAREN {
-        return closes(src, classes, x);
-    }
-    false
+    x.kind == Kind::LPAREN && closes(source, x)
 }

@@ -4,77 +4,48 @@
 ghost use Rattle.std.specs.Prelude.{◌≡◌, false};
 ghost use Rattle.definition.specs.Syntax.{finish};
 ghost use Rattle.theorems.specs.BodyRows.{ends};
-ghost use Rattle.parser.specs.Rest.{leaf_seen, Held, Reading};
-ghost use Rattle.parser_run.specs.Reads.{stand, Reads};
+ghost use Rattle.parser.specs.Rest.{leaf_seen, Held};
+ghost use Rattle.parser_run.specs.Parses.{source_of, Parses};
 ghost use Rattle.line.specs.Line.{tail_errors, extra_row, ErrorRow};
 
 use error::ErrorKind;
 use parser::Seen;
-use parser_run::ParserRun;
-use pre::class::Classes;
+use parser_run::{Parser, fault};
 use syntax_kind::number::Kind;
-use tree::level::OPEN_LEVELS;
 
 // The rest of the line in an ERROR node, from a leaf on that is no NEWLINE.
-fn error_row(
-    src: &[u8],
-    classes: &Classes,
-    table: &mut [u32],
-    levels: &mut [usize; OPEN_LEVELS],
-    state: ParserRun,
-) -> ParserRun
-    requires { (Reading src.now classes.now state.run.seen) × (ends state.run.seen.kind ≡ false) }
-    ensures { ErrorRow src.now table.old levels.old state table.new levels.new result }
+fn error_row(p: &mut Parser)
+    requires { ends p.old.state.run.seen.kind ≡ false }
+    ensures { ErrorRow p.old p.new }
 {
-    let a = parser_run::start_node(table, levels, state);
-    let run = parser::skip_inline(src, classes, table, a.run);
-    let b = parser_run::with_run(a, run);
-    parser_run::finish_node(table, levels, b, Kind::ERROR)
+    p.start_node();
+    p.skip_inline();
+    p.finish_node(Kind::ERROR);
 }
 
 // Extra leaves up to the end of the line. known: the directive is, and they are an error; w: its word.
-fn extra(
-    src: &[u8],
-    classes: &Classes,
-    table: &mut [u32],
-    levels: &mut [usize; OPEN_LEVELS],
-    errors: &mut [u32],
-    state: ParserRun,
-    w: Seen,
-    known: bool,
-) -> ParserRun
-    requires { (Reading src.now classes.now state.run.seen) × ((ends state.run.seen.kind ≡ false) × ((Held src.now w) × (w.kind ≡ 0 → ⊥))) }
-    ensures { Reads src.now (extra_row src.now known (leaf_seen src.now w) state.run.seen) (stand table.old levels.old errors.old state) (stand table.new levels.new errors.new result) }
+fn extra(p: &mut Parser, w: Seen, known: bool)
+    requires more { ends p.old.state.run.seen.kind ≡ false }
+    requires held { Held (source_of p.old) w }
+    requires word { w.kind ≡ 0 → ⊥ }
+    ensures { Parses (extra_row (source_of p.old) known (leaf_seen (source_of p.old) w) p.old.state.run.seen) p.old p.new }
 {
-    let x = parser_run::peek(state);
-    let a = error_row(src, classes, table, levels, state);
+    let x = p.peek();
+    error_row(p);
     if known {
-        let run = a.run;
-        let pen = run.pen;
-        let e = parser_run::fault::named_error(ErrorKind::ExtraTokens, x.start, pen.pos, w);
-        return parser_run::push_error(errors, a, e);
+        let end = p.state.run.pen.pos;
+        p.push_error(fault::named_error(ErrorKind::ExtraTokens, x.start, end, w));
     }
-    a
 }
 
 // The end of a directive's line. known: the directive is; w: its word.
-pub fn finish(
-    src: &[u8],
-    classes: &Classes,
-    table: &mut [u32],
-    levels: &mut [usize; OPEN_LEVELS],
-    errors: &mut [u32],
-    state: ParserRun,
-    w: Seen,
-    known: bool,
-) -> ParserRun
-    requires { (Reading src.now classes.now state.run.seen) × ((Held src.now w) × (w.kind ≡ 0 → ⊥)) }
-    ensures { Reads src.now (finish (tail_errors known (leaf_seen src.now w))) (stand table.old levels.old errors.old state) (stand table.new levels.new errors.new result) }
+pub fn finish(p: &mut Parser, w: Seen, known: bool)
+    requires held { Held (source_of p.old) w }
+    requires word { w.kind ≡ 0 → ⊥ }
+    ensures { Parses (finish (tail_errors known (leaf_seen (source_of p.old) w))) p.old p.new }
 {
-    let x = parser_run::peek(state);
-    if parser::ends_row(x.kind) {
-        return parser_run::bump(src, classes, table, state);
+    if !parser::ends_row(p.state.run.seen.kind) {
+        extra(p, w, known);
     }
-    let a = extra(src, classes, table, levels, errors, state, w, known);
-    parser_run::bump(src, classes, table, a)
+    p.bump();
 }

@@ -1,21 +1,20 @@
 // The parser's hold on its leaves: the one that is seen, taking it, and passing over trivia (`parser.rs`).
 #![tactic(auto)]
 
+pub mod source;
 pub mod trivia;
 
-ghost use Rattle.std.specs.Prelude.{◌≡◌, ◌≤◌, length};
-ghost use Rattle.definition.specs.Calls.{longest_source};
+ghost use Rattle.std.specs.Prelude.{◌≡◌};
 ghost use Rattle.definition.specs.Parser as reader;
 ghost use Rattle.theorems.specs.BodyRows.{ends};
 ghost use Rattle.theorems.specs.LeavesFrom.{leaf_kind as LeavesFrom·leaf_kind};
 ghost use Rattle.syntax_kind.specs.Number.{number};
-ghost use Rattle.pre.specs.Table.{class_table};
 ghost use Rattle.tree.specs.Machine.{sheet, leafed};
-ghost use Rattle.parser.specs.Rest.{run_of, Sees, trivial, inlined, Reading, Takes};
+ghost use Rattle.parser.specs.Rest.{run_of, Sees, trivial, inlined, Held, Takes};
 
+use crate::source::Source;
 use glue::Lexer;
 use pre::PreLexer;
-use pre::class::Classes;
 use syntax_kind::kind::SyntaxKind;
 use syntax_kind::number::Kind;
 use tree::Pen;
@@ -82,9 +81,8 @@ fn leaf_kind(kind: SyntaxKind) -> u8
 }
 
 // Sees the first leaf from a place on.
-pub fn see(src: &[u8], classes: &Classes, at: u32, angle: bool) -> Seen
-    requires { (classes.now ≡ class_table) × (length src.now ≤ longest_source) }
-    ensures { Sees src.now at angle result }
+pub fn see(source: Source, at: u32, angle: bool) -> Seen
+    ensures { Sees source.entry.src.now at angle result }
 {
     let lexer = Lexer {
         input: PreLexer {
@@ -92,7 +90,7 @@ pub fn see(src: &[u8], classes: &Classes, at: u32, angle: bool) -> Seen
             angle,
         },
     };
-    match lexer.next(src, classes) {
+    match lexer.next(source.src, source.classes) {
         Some(t) => {
             let input = t.next.input;
             Seen {
@@ -126,16 +124,16 @@ pub fn leaf(table: &mut [u32], pen: Pen, x: Seen) -> Pen
 }
 
 // Takes the leaf that is seen, if there is one, and sees the next.
-pub fn bump(src: &[u8], classes: &Classes, table: &mut [u32], run: Run) -> Run
-    requires { Reading src.now classes.now run.seen }
-    ensures { Takes src.now reader.bump table.old run table.new result }
+pub fn bump(source: Source, table: &mut [u32], run: Run) -> Run
+    requires { Held source.src.now run.seen }
+    ensures { Takes source.entry.src.now reader.bump table.old run table.new result }
 {
     let seen = run.seen;
     if seen.kind == 0 {
         return run;
     }
     let pen = leaf(table, run.pen, seen);
-    run_of(see(src, classes, seen.end, seen.angle), pen)
+    run_of(see(source, seen.end, seen.angle), pen)
 }
 
 // Whether a kind is that of trivia.
@@ -146,13 +144,13 @@ pub fn is_trivia(kind: u8) -> bool
 }
 
 // Takes the trivia that comes next.
-pub fn skip_trivia(src: &[u8], classes: &Classes, table: &mut [u32], run: Run) -> Run
-    requires { Reading src.now classes.now run.seen }
-    ensures { Takes src.now reader.skip_trivia table.old run table.new result }
+pub fn skip_trivia(source: Source, table: &mut [u32], run: Run) -> Run
+    requires { Held source.src.now run.seen }
+    ensures { Takes source.entry.src.now reader.skip_trivia table.old run table.new result }
 {
     let mut held = run;
     while is_trivia(held.seen.kind) {
-        held = bump(src, classes, table, held);
+        held = bump(source, table, held);
     }
     held
 }
@@ -172,13 +170,13 @@ fn is_inline(kind: u8) -> bool
 }
 
 // Takes the rest of the line, up to its NEWLINE or the end.
-pub fn skip_inline(src: &[u8], classes: &Classes, table: &mut [u32], run: Run) -> Run
-    requires { Reading src.now classes.now run.seen }
-    ensures { Takes src.now (reader.skip reader.inline) table.old run table.new result }
+pub fn skip_inline(source: Source, table: &mut [u32], run: Run) -> Run
+    requires { Held source.src.now run.seen }
+    ensures { Takes source.entry.src.now (reader.skip reader.inline) table.old run table.new result }
 {
     let mut held = run;
     while is_inline(held.seen.kind) {
-        held = bump(src, classes, table, held);
+        held = bump(source, table, held);
     }
     held
 }

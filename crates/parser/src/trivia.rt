@@ -1,14 +1,12 @@
 // Trivia that is passed over before it is known where it belongs (`buffer_trivia`, `eat_trivia`): a range of leaves in place of a queue.
-ghost use Rattle.std.specs.Prelude.{◌≡◌, true, ◌≤◌, length};
-ghost use Rattle.definition.specs.Calls.{longest_source};
+ghost use Rattle.std.specs.Prelude.{◌≡◌, true};
 ghost use Rattle.definition.specs.Parser.{while};
-ghost use Rattle.pre.specs.Table.{class_table};
 ghost use Rattle.tree.specs.Machine.{sheet, leafs};
-ghost use Rattle.parser.specs.Rest.{Reading, trivial, unread};
+ghost use Rattle.parser.specs.Rest.{Held, trivial, unread};
 ghost use Rattle.parser.specs.Passed.{row_of, before, Passes, Behind};
 
 use crate::Seen;
-use pre::class::Classes;
+use crate::source::Source;
 use tree::Pen;
 
 // A row of trivia: its first leaf and the leaf behind it. It is empty if both start at one place.
@@ -28,49 +26,42 @@ fn row_of(x: Seen, y: Seen) -> Trivia
 }
 
 // Passes over the trivia from a leaf on that is trivia.
-fn pass(src: &[u8], classes: &Classes, x: Seen) -> Trivia
-    requires { (Reading src.now classes.now x) × (trivial x.kind ≡ true) }
-    ensures { Passes src.now x result }
+#[tactic(auto, using(crate::proofs::Passing::passing_fewer, crate::proofs::Passing::passing_done))]
+fn pass(source: Source, x: Seen) -> Trivia
+    requires { (Held source.src.now x) × (trivial x.kind ≡ true) }
+    ensures { Passes source.entry.src.now x result }
 {
-    let mut next = crate::see(src, classes, x.end, x.angle);
-    while crate::is_trivia(next.kind) {
-        next = crate::see(src, classes, next.end, next.angle);
+    let mut next = crate::see(source, x.end, x.angle);
+    'trivia: while crate::is_trivia(next.kind) {
+        next = crate::see(source, next.end, next.angle);
     }
     row_of(x, next)
 }
 
 // Passes over the trivia from a leaf on that is seen.
-pub fn buffer_trivia(src: &[u8], classes: &Classes, x: Seen) -> Trivia
-    requires { Reading src.now classes.now x }
-    ensures { Passes src.now x result }
+pub fn buffer_trivia(source: Source, x: Seen) -> Trivia
+    requires { Held source.src.now x }
+    ensures { Passes source.entry.src.now x result }
 {
     if crate::is_trivia(x.kind) {
-        return pass(src, classes, x);
+        return pass(source, x);
     }
     row_of(x, x)
 }
 
 // Passes over the trivia from a place on.
-pub fn behind(src: &[u8], classes: &Classes, at: u32, angle: bool) -> Trivia
-    requires { (classes.now ≡ class_table) × (length src.now ≤ longest_source) }
-    ensures { Behind src.now at angle result }
+pub fn behind(source: Source, at: u32, angle: bool) -> Trivia
+    ensures { Behind source.entry.src.now at angle result }
 {
-    let x = crate::see(src, classes, at, angle);
-    buffer_trivia(src, classes, x)
+    let x = crate::see(source, at, angle);
+    buffer_trivia(source, x)
 }
 
 // Writes leaves that were passed over: those from `first` on that start before `stop`. Those behind the first are lexed once more; the one that
 // starts at `stop` is not.
-pub fn eat_trivia(
-    src: &[u8],
-    classes: &Classes,
-    table: &mut [u32],
-    pen: Pen,
-    first: Seen,
-    stop: u32,
-) -> Pen
-    requires { Reading src.now classes.now first }
-    ensures { sheet table.new result ≡ leafs (sheet table.old pen) (while (before stop) (unread src.now first)) }
+pub fn eat_trivia(source: Source, table: &mut [u32], pen: Pen, first: Seen, stop: u32) -> Pen
+    requires { Held source.src.now first }
+    ensures { sheet table.new result ≡ leafs (sheet table.old pen) (while (before stop) (unread source.entry.src.now first)) }
 {
     let mut held = pen;
     let mut x = first;
@@ -85,6 +76,6 @@ pub fn eat_trivia(
         if x.end == stop {
             return held;
         }
-        x = crate::see(src, classes, x.end, x.angle);
+        x = crate::see(source, x.end, x.angle);
     }
 }

@@ -1,3 +1,4 @@
 pub mod Reads
 pub mod Faults
 pub mod Expects
+pub mod Parses

@@ -1,6 +1,6 @@
 -- The items of a source, with ROOT begun before them and ended behind them, are its reading; a row that is a body is a body's.
 use Prim.Native.Nat.{ℕ, ◌<◌}
-use mathlib.Core.Path.{◌≡◌, refl, sym, ap, ◌∙◌}
+use mathlib.Core.Path.{◌≡◌, refl, sym, ap, subst, ◌∙◌}
 use mathlib.Core.Bool.{false, ◌||◌}
 use mathlib.Core.List.{List, [], ◌++◌, append-nil}
 use native.Mathlib.Omega.{arith}
@@ -33,27 +33,26 @@ use Rattle.error.specs.Log.{log, adds}
 use Rattle.error.proofs.Adds.{adds_laid}
 use Rattle.parser.specs.declared.Seen.{Seen}
 use Rattle.parser.specs.declared.Run.{Run}
-use Rattle.parser.specs.Rest.{run_of, Sees, Reading, unread}
+use Rattle.parser.specs.Rest.{run_of, Sees, unread}
 use Rattle.rows.specs.declared.BodyRow.{BodyRow}
 use Rattle.rows.specs.Rowed.{ReadsAlone}
 use Rattle.parser_run.specs.declared.ParserRun.{ParserRun}
+use Rattle.parser_run.specs.declared.Parser.{Parser}
 use Rattle.parser_run.specs.Reads.{stand, Reads, Moves}
+use Rattle.parser_run.specs.Parses.{source_of, stand_of, Parses, Nodes}
 use Rattle.parser_run.proofs.Laws.{reads_wrap}
+use Rattle.parser_run.proofs.Parsing.{kept_then, same_source}
 use Rattle.file.specs.Ground.{Grounded}
 use Rattle.file.specs.Advance.{items_of}
 use Rattle.file.proofs.Grounds.{front_lies}
-use Rattle.reading.specs.Parsed.{Begins, Lent, Parsed, ParsedBody, Ended}
-use Rattle.syntax_kind.specs.declared.kind.SyntaxKind.{SyntaxKind}
+use Rattle.reading.specs.Parsed.{Begins, Lent, Parsed, Rooted, ParsedBody, Ended}
 
 -- Nothing is read or written yet.
 pub begins_is : (src : List ℕ) (s : Seen) (p : Pen) (r : Run) → Sees src 0 false s → p ≡ pen_at 0 0 0 0 → r ≡ run_of s p
     → Begins src (record { run = r; errs = 0; over = false })
 begins_is src s p r x i e = rw e (record { rest = x.rest; held = x.held; front = i; no_errs = refl; not_over = refl })
 
-module _ {src : List ℕ} {classes : List SyntaxKind} {t o : List ℕ} {st : ParserRun} (b : Begins src st) (l : Lent src classes t o) where
-  pub begun_reading : Reading src classes st.run.seen
-  begun_reading = record { table = l.table; short = l.short; held = b.held }
-
+module _ {src : List ℕ} {t o : List ℕ} {st : ParserRun} (b : Begins src st) (l : Lent t o) where
   abbrev first : Writer
   first = writer t (zeros open_levels) (pen_at 0 0 0 0)
 
@@ -65,7 +64,7 @@ module _ {src : List ℕ} {classes : List SyntaxKind} {t o : List ℕ} {st : Par
     opened : writer t₁ o₁ a.run.pen ≡ step Open first
     opened = x.writes ∙ ap (step Open) first_is
 
-    pub begun_ground : (e : List ℕ) → Grounded src (stand t₁ o₁ e a)
+    begun_ground : (e : List ℕ) → Grounded src (stand t₁ o₁ e a)
     unfolding step
     begun_ground e = record {
       standing = λ z. rw opened (open_standing first (omega arith) (first_standing t l.near));
@@ -91,13 +90,24 @@ module _ {src : List ℕ} {classes : List SyntaxKind} {t o : List ℕ} {st : Par
       ready : r.over ≡ false → Ready first (parse src).tree
       ready f = record { standing = first_standing t l.near; low = omega (arith, height_parse src (sym told ∙ f)); placed = placed_leaves src }
 
-      pub parsed_is : Parsed src t e t₃ e₂ r
+      parsed_is : Parsed src t e t₃ e₂ r
       unfolding full_reading
       parsed_is = record {
         over = told;
         tree = λ f. rw (ap (λ (w : Writer). page w.table w.pen.n) (wrote f)) (writes_laid (parse src).tree first (ready f));
         errs = whole.gives.errs ∙ ap (λ g. adds (log e st.errs) g.errs) got ∙ ap (λ n. adds (log e n) (parse src).errs) b.no_errs;
       }
+
+-- The same of parsers.
+module _ {s s₁ : Parser} (b : Begins (source_of s) s.state) (l : Lent s.table.now s.levels.now) (x : Nodes Open s s₁) where
+  pub root_ground : Grounded (source_of s₁) (stand_of s₁)
+  root_ground = subst (λ c. Grounded c (stand_of s₁)) (sym (same_source x.kept)) (begun_ground b l x.moves s₁.errors.now)
+
+  pub root_parsed : {s₂ s₃ : Parser} → Parses (items_of (source_of s₁)) s₁ s₂ → Nodes (Shut Kind.ROOT) s₂ s₃
+      → Rooted s s₃
+  root_parsed {s₂} {s₃} y z =
+      let r : Reads (source_of s) (items_of (source_of s)) (stand_of s₁) (stand_of s₂) = subst (λ c. Reads c (items_of c) (stand_of s₁) (stand_of s₂)) (same_source x.kept) y.reads in
+      record { kept = kept_then x.kept (kept_then y.kept z.kept); parsed = rw (z.errors, ← x.errors) (parsed_is b l x.moves r z.moves) }
 
 -- The leaves of a define body are the first of the source's.
 body_lies : (src : List ℕ) → Placed 0 (leaves (parse_define_body src))

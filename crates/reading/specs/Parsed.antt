@@ -3,10 +3,9 @@ use Rattle.std.specs.Prelude.{ℕ, ◌/◌, ◌≤◌, ◌<◌, ◌≡◌, false
 use Rattle.definition.specs.Tree.{Width, entries, entry_numbers, body_concats}
 use Rattle.definition.specs.Error.{error_numbers}
 use Rattle.definition.specs.Syntax.{parse_define_body}
-use Rattle.definition.specs.Calls.{longest_source, refusal, source_checks, reading_checks, full_reading, entries_of, too_many}
+use Rattle.definition.specs.Calls.{refusal, source_checks, reading_checks, full_reading, entries_of, too_many}
 use Rattle.theorems.specs.Height.{open_levels}
 use Rattle.theorems.specs.LeavesFrom.{leaves_from}
-use Rattle.pre.specs.Table.{class_table}
 use Rattle.table.specs.Fills.{Written}
 use Rattle.table.specs.Row.{far, page, Laid}
 use Rattle.tree.specs.Machine.{pen_at}
@@ -14,8 +13,9 @@ use Rattle.error.specs.Log.{log, adds}
 use Rattle.parser.specs.Rest.{unread, Held}
 use Rattle.rows.specs.declared.BodyRow.{BodyRow}
 use Rattle.parser_run.specs.declared.ParserRun.{ParserRun}
+use Rattle.parser_run.specs.declared.Parser.{Parser}
+use Rattle.parser_run.specs.Parses.{source_of, Kept}
 use Rattle.tables.specs.declared.Ends.{Ends}
-use Rattle.syntax_kind.specs.declared.kind.SyntaxKind.{SyntaxKind}
 use Rattle.tables.specs.Decided.{Countable, Fit}
 use Rattle.reading.specs.Promise.{body_checks}
 
@@ -27,11 +27,8 @@ pub record Begins (src : List ℕ) (st : ParserRun) : Type 0 where
   pub no_errs : st.errs ≡ 0
   pub not_over : st.over ≡ false
 
--- What it is lent: the table of classes, a source that is not refused for its length, an entry table that ends before the far place, and levels of
--- which none is open.
-pub record Lent (src : List ℕ) (classes : List SyntaxKind) (t o : List ℕ) : Type 0 where
-  pub table : classes ≡ class_table
-  pub short : length src ≤ longest_source
+-- What it is lent: an entry table that ends before the far place, and levels of which none is open.
+pub record Lent (t o : List ℕ) : Type 0 where
   pub near : length t < far
   pub levels : o ≡ replicate open_levels 0
 
@@ -40,6 +37,11 @@ pub record Parsed (src t e t' e' : List ℕ) (st : ParserRun) : Type 0 where
   pub over : st.over ≡ too_many (full_reading src).concats
   pub tree : st.over ≡ false → Laid (entries_of (full_reading src)) (page t 0) (page t' st.run.pen.n)
   pub errs : log e' st.errs ≡ adds (log e 0) (full_reading src).error_list
+
+-- The same of a parser.
+pub record Rooted (s s' : Parser) : Type 0 where
+  pub kept : Kept s s'
+  pub parsed : Parsed (source_of s) s.table.now s.errors.now s'.table.now s'.errors.now s'.state
 
 -- The same of a define body, which has no errors.
 pub record ParsedBody (src t t' : List ℕ) (r : BodyRow) : Type 0 where

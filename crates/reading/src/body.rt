@@ -5,6 +5,7 @@ ghost use Rattle.table.specs.Row.{far};
 ghost use Rattle.text.specs.Refusal.{number};
 ghost use Rattle.reading.specs.Parsed.{ParsedBody, body_due, AcceptedBody};
 
+use parser::source::Source;
 use pre::class;
 use rows::BodyRow;
 use text::refusal::Refusal;
@@ -18,7 +19,11 @@ pub fn write(src: &[u8], entries: &mut [u32]) -> BodyRow
 {
     let classes = class::class_table();
     let mut levels = level::levels();
-    rows::body::body_alone(src, &classes, entries, &mut levels)
+    let source = Source {
+        src,
+        classes: &classes,
+    };
+    rows::body::body_alone(source, entries, &mut levels)
 }
 
 // Reads a define body into a table that is long enough for it, or says why it is refused; gives the place behind its last entry.

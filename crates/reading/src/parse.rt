@@ -1,14 +1,14 @@
 // The tree and the errors of a source, written as far as the tables go.
 ghost use Rattle.std.specs.Prelude.{◌≡◌, ◌≤◌, ◌<◌, length, IfOk, IfErr};
 ghost use Rattle.definition.specs.Calls.{longest_source};
-ghost use Rattle.pre.specs.Table.{class_table};
 ghost use Rattle.table.specs.Row.{far};
 ghost use Rattle.text.specs.Refusal.{number};
-ghost use Rattle.reading.specs.Parsed.{Begins, Lent, Parsed, Ended, due, Accepted};
+ghost use Rattle.parser_run.specs.Parses.{source_of};
+ghost use Rattle.reading.specs.Parsed.{Begins, Lent, Parsed, Rooted, Ended, due, Accepted};
 
-use parser_run::ParserRun;
+use parser::source::Source;
+use parser_run::{Parser, ParserRun};
 use pre::class;
-use pre::class::Classes;
 use syntax_kind::number::Kind;
 use tables::Ends;
 use text::refusal::Refusal;
@@ -17,11 +17,10 @@ use tree::level::OPEN_LEVELS;
 use tree::{Pen, level};
 
 // At the front of a source, with nothing written.
-fn begin(src: &[u8], classes: &Classes) -> ParserRun
-    requires { (classes.now ≡ class_table) × (length src.now ≤ longest_source) }
-    ensures { Begins src.now result }
+fn begin(source: Source) -> ParserRun
+    ensures { Begins source.entry.src.now result }
 {
-    let seen = parser::see(src, classes, 0, false);
+    let seen = parser::see(source, 0, false);
     let run = parser::run_of(seen, Pen::new());
     ParserRun {
         run,
@@ -31,20 +30,37 @@ fn begin(src: &[u8], classes: &Classes) -> ParserRun
 }
 
 // The items of a source, under ROOT.
+fn items(p: &mut Parser)
+    requires begins { Begins (source_of p.old) p.old.state }
+    requires lent { Lent p.old.table.now p.old.levels.now }
+    ensures { Rooted p.old p.new }
+{
+    p.start_node();
+    file::file(p);
+    p.finish_node(Kind::ROOT);
+}
+
+// The same with tables that are lent.
 fn root(
-    src: &[u8],
-    classes: &Classes,
+    source: Source,
     entries: &mut [u32],
     levels: &mut [usize; OPEN_LEVELS],
     errors: &mut [u32],
     state: ParserRun,
 ) -> ParserRun
-    requires { (Begins src.now state) × (Lent src.now classes.now entries.old levels.old) }
-    ensures { Parsed src.now entries.old errors.old entries.new errors.new result }
+    requires begins { Begins source.src.now state }
+    requires lent { Lent entries.old levels.old }
+    ensures { Parsed source.entry.src.now entries.old errors.old entries.new errors.new result }
 {
-    let a = parser_run::start_node(entries, levels, state);
-    let b = file::file(src, classes, entries, levels, errors, a);
-    parser_run::finish_node(entries, levels, b, Kind::ROOT)
+    let mut p = Parser {
+        source,
+        table: entries,
+        levels,
+        errors,
+        state,
+    };
+    items(&mut p);
+    p.state
 }
 
 // Writes the tree of a source and its errors, as far as the tables go.
@@ -54,8 +70,12 @@ pub fn parse(src: &[u8], entries: &mut [u32], errors: &mut [u32]) -> ParserRun
 {
     let classes = class::class_table();
     let mut levels = level::levels();
-    let state = begin(src, &classes);
-    root(src, &classes, entries, &mut levels, errors, state)
+    let source = Source {
+        src,
+        classes: &classes,
+    };
+    let state = begin(source);
+    root(source, entries, &mut levels, errors, state)
 }
 
 // Writes the full reading of a source, as far as the tables go; the errors get their lines and columns later.

@@ -1,21 +1,18 @@
 -- What is promised of a row that is read leaf by leaf, and of a body.
-use Rattle.std.specs.Prelude.{ℕ, ◌-◌, ◌≤◌, ◌≡◌, Bool, true, false, List, ltb, length}
+use Rattle.std.specs.Prelude.{ℕ, ◌-◌, ◌≡◌, Bool, true, false, List, ltb}
 use Rattle.definition.specs.SyntaxKind.{Kind}
 use Rattle.definition.specs.Tree.{Leaf, body_kind, concat_ops, body_concats}
 use Rattle.definition.specs.Parser.{inline, while, Got, Reader}
 use Rattle.definition.specs.Syntax.{pp_body, parse_define_body}
-use Rattle.definition.specs.Calls.{longest_source, most_concats, too_many}
+use Rattle.definition.specs.Calls.{most_concats, too_many}
 use Rattle.theorems.specs.LeavesFrom.{leaves_from}
 use Rattle.theorems.specs.BodyRows.{under, concat_rest_within, concat_within, pasting_by, row_reader_by}
-use Rattle.pre.specs.Table.{class_table}
 use Rattle.tree.specs.Machine.{Event, Shut, Leaf as EventLeaf, Writer, writer, step, events, run}
 use Rattle.parser.specs.declared.Seen.{Seen}
-use Rattle.parser.specs.declared.trivia.Trivia.{Trivia}
 use Rattle.parser.specs.Rest.{unread, Held}
 use Rattle.parser.specs.Passed.{Passed}
 use Rattle.rows.specs.declared.BodyRow.{BodyRow}
 use Rattle.rows.specs.declared.body.BodyRun.{BodyRun}
-use Rattle.syntax_kind.specs.declared.kind.SyntaxKind.{SyntaxKind}
 
 -- Whether a line has more ## than a.
 abbrev pub beyond : ℕ → List Leaf → Bool
@@ -34,12 +31,6 @@ seen_event x = EventLeaf x.kind x.start x.end
 
 abbrev pub behind_seen : List ℕ → Seen → List Leaf
 behind_seen src x = leaves_from src x.end x.angle
-
--- What functions ask that are handed trivia which was passed over.
-pub record Ahead (src : List ℕ) (classes : List SyntaxKind) (p : Trivia) : Type 0 where
-  pub table : classes ≡ class_table
-  pub short : length src ≤ longest_source
-  pub passed : Passed src p
 
 -- Where the reading of a row arrives: what the writer holds, what is left, and whether there were too many ##.
 pub record Reached : Type 0 where

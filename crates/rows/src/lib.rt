@@ -8,10 +8,11 @@ ghost use Rattle.std.specs.Prelude.{◌≡◌};
 ghost use Rattle.definition.specs.Parser.{trivia, while};
 ghost use Rattle.tree.specs.Machine.{sheet, leafs};
 ghost use Rattle.parser.specs.Rest.{unread};
-ghost use Rattle.rows.specs.Rowed.{Ahead, Shuts};
+ghost use Rattle.parser.specs.Passed.{Passed};
+ghost use Rattle.rows.specs.Rowed.{Shuts};
 
+use parser::source::Source;
 use parser::trivia::Trivia;
-use pre::class::Classes;
 use tree::Pen;
 use tree::level::OPEN_LEVELS;
 
@@ -25,12 +26,12 @@ pub struct BodyRow {
 }
 
 // Writes trivia that was passed over.
-fn eat(src: &[u8], classes: &Classes, table: &mut [u32], pen: Pen, p: Trivia) -> Pen
-    requires { Ahead src.now classes.now p }
-    ensures { sheet table.new result ≡ leafs (sheet table.old pen) (while trivia (unread src.now p.first)) }
+fn eat(source: Source, table: &mut [u32], pen: Pen, p: Trivia) -> Pen
+    requires { Passed source.src.now p }
+    ensures { sheet table.new result ≡ leafs (sheet table.old pen) (while trivia (unread source.entry.src.now p.first)) }
 {
     let next = p.next;
-    parser::trivia::eat_trivia(src, classes, table, pen, p.first, next.start)
+    parser::trivia::eat_trivia(source, table, pen, p.first, next.start)
 }
 
 // A node of kind k ends where a row does.

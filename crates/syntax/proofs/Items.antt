@@ -1,10 +1,11 @@
 -- Items that begin with a HASH: a node that is opened before it and shut behind its line, or a closed group.
 use Prim.Native.Nat.{ℕ}
-use mathlib.Core.Path.{◌≡◌, refl, sym, ap, ◌∙◌}
+use mathlib.Core.Path.{◌≡◌, refl, sym, ap, subst, ◌∙◌}
 use mathlib.Core.Bool.{Bool, true, false, ◌||◌, or_assoc}
 use mathlib.Core.List.{List, [], ◌∷◌, ◌++◌}
 use mathlib.Core.Option.{Option, none, some}
 use native.Mathlib.Omega.{arith}
+use lib.ListN.{length}
 use Rattle.definition.specs.Tree.{Leaf, nil, leaf, node, row, ◌▹◌, leaves, body_kind}
 use Rattle.definition.specs.Parser.{trivia, while, after, Got, Reader, ◌then◌, skip, skip_trivia, nothing, bump}
 use Rattle.definition.specs.Syntax.{depth, pp_rs_ident, Line, control_line, hash_item, relexed}
@@ -21,11 +22,14 @@ use Rattle.parser.specs.declared.Seen.{Seen}
 use Rattle.parser.specs.declared.Run.{Run}
 use Rattle.parser.specs.Rest.{leaf_seen, unread, Takes}
 use Rattle.parser_run.specs.declared.ParserRun.{ParserRun}
+use Rattle.parser_run.specs.declared.Parser.{Parser}
 use Rattle.parser_run.specs.Reads.{with_run, Stand, stand, unread_at, Gives, Reads, Took, Moves}
+use Rattle.parser_run.specs.Parses.{source_of, stand_of, Parses, Leafs, Nodes}
 use Rattle.parser_run.proofs.Laws.{reads_is, reads_then, Rowed, bump_rowed, took}
-use Rattle.group.specs.Group.{group_at, nodeless}
+use Rattle.parser_run.proofs.Parsing.{kept_then, same_source}
+use Rattle.group.specs.Group.{group_at, nodeless, Gathers}
 use Rattle.group.proofs.Lines.{silent, closed_at}
-use Rattle.syntax.specs.Item.{Ends, hash_front, hash_reader}
+use Rattle.syntax.specs.Item.{Ends, Closes, hash_front, hash_reader}
 
 -- What a reader reads in an open node, which is then shut.
 pub ends_by : {src : List ℕ} {p : Reader} {l : Line} {m : Stand} {t o e t' o' : List ℕ} {st st' : ParserRun} {k : ℕ} → l.node_kind ≡ some k → l.got ≡ p (unread_at src m)
@@ -124,3 +128,37 @@ module _ {src : List ℕ} (n : ℕ) where
       let u : control_line n relexed a.rest ≡ record { node_kind = none; got = p a.rest } = rw (x.reads o e).gives.rest at (closed_at src st₁.run.seen n relexed q i) in
       reads_is (reads_then (x.reads o e) (k.reads o e)) (hash_shut n ts ∙ ap (shut (λ c. a.tree ▹ c)) u
       ∙ ap (λ es. record { tree = a.tree ▹ (p a.rest).tree; errs = es ++ []; rest = (p a.rest).rest }) (sym (front_errs ts)))
+
+-- The same of parsers: what a reader reads in an open node, which is then shut;
+pub closes_by : {p : Reader} {l : Line} {s s₁ s₂ : Parser} {k : ℕ} → l.node_kind ≡ some k → l.got ≡ p (unread (source_of s) s.state.run.seen) → Parses p s s₁ → Nodes (Shut k) s₁ s₂
+    → Closes l s s₂
+closes_by n g y z = record { kept = kept_then y.kept z.kept; ends = rw z.errors (ends_by n g y.reads z.moves) }
+
+-- a group, whose error is not logged;
+pub gathers_leafs : {s s' : Parser} → Gathers (group_at (source_of s) s.state.run.seen) s s' → Leafs (silent (group_at (source_of s) s.state.run.seen)) s s'
+gathers_leafs {s} {s'} y = record {
+  kept = y.aside.kept;
+  took = group_took y.takes (λ i. record { run = s'.state.run; errs = y.aside.errs i; over = y.aside.over i });
+  levels = y.aside.levels;
+  errors = y.aside.errors;
+}
+
+-- a closed group behind its HASH;
+pub group_parses : {s s₁ s₂ : Parser} {b : Bool} → Leafs hash_front s s₁ → b ≡ nodeless (control_line (length (source_of s)) relexed (unread (source_of s) s₁.state.run.seen)) → b ≡ true
+    → Gathers (group_at (source_of s₁) s₁.state.run.seen) s₁ s₂ → Parses (hash_reader (length (source_of s))) s s₂
+group_parses {s} {s₁} {s₂} x q i v =
+    let y : Takes (source_of s) (group_at (source_of s) s₁.state.run.seen) s₁.table.now s₁.state.run s₂.table.now s₂.state.run
+    = subst (λ l. Takes l (group_at l s₁.state.run.seen) s₁.table.now s₁.state.run s₂.table.now s₂.state.run) (same_source x.kept) v.takes in
+    let r : Reads (source_of s) (hash_reader (length (source_of s))) (stand_of s) (stand s₂.table.now s.levels.now s.errors.now s₂.state)
+    = hash_group (length (source_of s)) x.took q i y (λ j. record { run = s₂.state.run; errs = v.aside.errs j; over = v.aside.over j }) in
+    record { kept = kept_then x.kept v.aside.kept; reads = rw (v.aside.levels ∙ x.levels, v.aside.errors ∙ x.errors) r }
+
+-- and a node over a HASH and its line.
+pub directive_parses : {s s₁ s₂ s₃ : Parser} → Nodes Open s s₁ → Leafs hash_front s₁ s₂ → Closes (control_line (length (source_of s₂)) relexed (unread (source_of s₂) s₂.state.run.seen)) s₂ s₃
+    → Parses (hash_reader (length (source_of s))) s s₃
+directive_parses {s} {s₁} {s₂} {s₃} x y z =
+    let k = kept_then x.kept y.kept in
+    let t : Took (source_of s) hash_front s₁.table.now s₁.state s₂.table.now s₂.state = subst (λ l. Took l hash_front s₁.table.now s₁.state s₂.table.now s₂.state) (same_source x.kept) y.took in
+    let e : Ends (source_of s) (control_line (length (source_of s)) relexed (unread (source_of s) s₂.state.run.seen)) (stand_of s₂) (stand_of s₃)
+    = subst (λ l. Ends l (control_line (length l) relexed (unread l s₂.state.run.seen)) (stand_of s₂) (stand_of s₃)) (same_source k) z.ends in
+    record { kept = kept_then k z.kept; reads = hash_directive (length (source_of s)) x.moves t (rw (y.levels, y.errors ∙ x.errors) at e) }

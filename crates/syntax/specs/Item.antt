@@ -7,7 +7,9 @@ use Rattle.theorems.specs.Height.{crowded}
 use Rattle.tree.specs.Machine.{Shut, events, step, run}
 use Rattle.error.specs.Log.{adds}
 use Rattle.parser.specs.Rest.{Held}
+use Rattle.parser_run.specs.declared.Parser.{Parser}
 use Rattle.parser_run.specs.Reads.{Stand, writer_at, log_at, unread_at}
+use Rattle.parser_run.specs.Parses.{source_of, stand_of, Kept}
 
 -- From m, in an open node, to m', behind its end: the line l was read, and its kind is the node's.
 pub record Ends (src : List ℕ) (l : Line) (m m' : Stand) : Type 0 where
@@ -18,6 +20,11 @@ pub record Ends (src : List ℕ) (l : Line) (m m' : Stand) : Type 0 where
   pub rest : unread_at src m' ≡ l.got.rest
   pub held : Held src m'.state.run.seen
   pub over : m'.state.over ≡ (m.state.over || crowded l.got.tree)
+
+-- The same of a parser.
+pub record Closes (l : Line) (s s' : Parser) : Type 0 where
+  pub kept : Kept s s'
+  pub ends : Ends (source_of s) l (stand_of s) (stand_of s')
 
 -- Trivia, a HASH and the trivia behind it.
 abbrev pub hash_front : Reader

@@ -1,16 +1,16 @@
 // Text lines: their leaves go straight from the source into the table, line after line.
 #![tactic(auto)]
 
-ghost use Rattle.std.specs.Prelude.{◌≡◌, true, ◌≤◌, ◌<◌, length, get_or, IfSome};
+ghost use Rattle.std.specs.Prelude.{◌≡◌, true, ◌<◌, length, get_or, IfSome};
 ghost use Rattle.syntax_kind.specs.Number.{number};
-ghost use Rattle.definition.specs.Calls.{longest_source};
 ghost use Rattle.theorems.specs.LeavesFrom.{leaves_from};
-ghost use Rattle.pre.specs.Table.{class_table, class_number};
-ghost use Rattle.parser.specs.Rest.{Sees, Reading, unread};
+ghost use Rattle.pre.specs.Table.{class_number};
+ghost use Rattle.parser.specs.Rest.{Sees, Held, unread};
 ghost use Rattle.text_lines.specs.Lines.{Alone, Single, Quick, Begins, Shown, Going, Lined};
 
+use parser::source::Source;
 use parser::{Run, Seen};
-use pre::class::{Classes, class_of};
+use pre::class::class_of;
 use pre::token::Token;
 use syntax_kind::kind::SyntaxKind;
 use syntax_kind::number::Kind;
@@ -62,11 +62,10 @@ fn unglued(c: SyntaxKind, d: SyntaxKind) -> bool
 }
 
 // The token at a place that begins with punctuation of class c, where it is one character and that is seen at once.
-fn quick_punct(src: &[u8], classes: &Classes, at: usize, c: SyntaxKind) -> Option<Token>
-    requires table { classes.now ≡ class_table }
-    requires within { at < length src.now }
-    requires class { number c ≡ class_number (get_or src.now at 0) }
-    ensures { IfSome result (Quick src.now at) }
+fn quick_punct(source: Source, at: usize, c: SyntaxKind) -> Option<Token>
+    requires within { at < length source.src.now }
+    requires class { number c ≡ class_number (get_or source.src.now at 0) }
+    ensures { IfSome result (Quick source.entry.src.now at) }
 {
     let whole = Token {
         kind: c,
@@ -75,31 +74,30 @@ fn quick_punct(src: &[u8], classes: &Classes, at: usize, c: SyntaxKind) -> Optio
     if single(c) {
         return Some(whole);
     }
-    let d = class_of(classes, byte_at(src, at + 1));
+    let d = class_of(source.classes, byte_at(source.src, at + 1));
     if unglued(c, d) { Some(whole) } else { None }
 }
 
 // The token at a place that begins with a character of class c, where it is seen at once: a word, blanks, a number or one character. It is no
 // continuation, and does not change whether an angle string is expected. One test after another: a match on the kind becomes a table of jumps, which is
 // slower.
-fn quick(src: &[u8], classes: &Classes, at: usize, c: SyntaxKind) -> Option<Token>
-    requires table { classes.now ≡ class_table }
-    requires within { at < length src.now }
-    requires class { number c ≡ class_number (get_or src.now at 0) }
-    ensures { IfSome result (Quick src.now at) }
+fn quick(source: Source, at: usize, c: SyntaxKind) -> Option<Token>
+    requires within { at < length source.src.now }
+    requires class { number c ≡ class_number (get_or source.src.now at 0) }
+    ensures { IfSome result (Quick source.entry.src.now at) }
 {
     if let SyntaxKind::IDENT_KW = c {
-        let t = pre::ident::word(src, classes, at + 1);
-        let kind = pre::name::name(src, at, t.end, t.kind);
+        let t = pre::ident::word(source.src, source.classes, at + 1);
+        let kind = pre::name::name(source.src, at, t.end, t.kind);
         return Some(Token { kind, end: t.end });
     }
     if let SyntaxKind::WS = c {
-        return Some(pre::whitespace::whitespace(src, classes, at + 1));
+        return Some(pre::whitespace::whitespace(source.src, source.classes, at + 1));
     }
     if let SyntaxKind::DIGITS = c {
-        return Some(pre::digits::digits(src, classes, at + 1));
+        return Some(pre::digits::digits(source.src, source.classes, at + 1));
     }
-    quick_punct(src, classes, at, c)
+    quick_punct(source, at, c)
 }
 
 // Whether a byte, with the one behind it, begins neither HASH nor a comment of several lines nor a continuation.
@@ -114,36 +112,32 @@ fn begins_text(b: u8, next: u8) -> bool
 }
 
 // Whether the line from a place on is seen to be text, or blank, by its first bytes.
-fn shows_text(src: &[u8], classes: &Classes, at: usize) -> bool
-    requires { classes.now ≡ class_table }
-    ensures { result ≡ true → Shown src.now at }
+fn shows_text(source: Source, at: usize) -> bool
+    ensures { result ≡ true → Shown source.entry.src.now at }
 {
-    let t = pre::whitespace::whitespace(src, classes, at);
+    let t = pre::whitespace::whitespace(source.src, source.classes, at);
     let i = t.end;
-    i < src.len() && begins_text(src[i], byte_at(src, i + 1))
+    i < source.src.len() && begins_text(source.src[i], byte_at(source.src, i + 1))
 }
 
 // Whether text goes on behind a leaf of this kind that ends there: in the same line, or in one that is seen to be text.
-fn goes_on(src: &[u8], classes: &Classes, kind: u8, end: u32) -> bool
-    requires { classes.now ≡ class_table }
-    ensures { Going src.now kind end result }
+fn goes_on(source: Source, kind: u8, end: u32) -> bool
+    ensures { Going source.entry.src.now kind end result }
 {
     if kind == Kind::NEWLINE {
-        return shows_text(src, classes, end as usize);
+        return shows_text(source, end as usize);
     }
     true
 }
 
 // The leaf at a place within the source.
-fn leaf_at(src: &[u8], classes: &Classes, at: u32, angle: bool) -> Seen
-    requires table { classes.now ≡ class_table }
-    requires long { length src.now ≤ longest_source }
-    requires within { at < length src.now }
-    ensures { Sees src.now at angle result }
+fn leaf_at(source: Source, at: u32, angle: bool) -> Seen
+    requires within { at < length source.src.now }
+    ensures { Sees source.entry.src.now at angle result }
 {
     let place = at as usize;
-    let c = class_of(classes, src[place]);
-    if let Some(t) = quick(src, classes, place, c) {
+    let c = class_of(source.classes, source.src[place]);
+    if let Some(t) = quick(source, place, c) {
         return Seen {
             kind: t.kind.into(),
             start: at,
@@ -152,7 +146,7 @@ fn leaf_at(src: &[u8], classes: &Classes, at: u32, angle: bool) -> Seen
         };
     }
     if let SyntaxKind::NEWLINE = c {
-        let end = place + newline_at(src, place);
+        let end = place + newline_at(source.src, place);
         return Seen {
             kind: Kind::NEWLINE,
             start: at,
@@ -160,33 +154,25 @@ fn leaf_at(src: &[u8], classes: &Classes, at: u32, angle: bool) -> Seen
             angle: false,
         };
     }
-    parser::see(src, classes, at, angle)
+    parser::see(source, at, angle)
 }
 
 // Takes the rest of a text line, up to and with its NEWLINE, and the lines behind it while they are seen to be text; at and angle: where the rest
 // begins, and whether an angle string is expected there. The place goes on by a leaf.
-fn rest_of_lines(
-    src: &[u8],
-    classes: &Classes,
-    table: &mut [u32],
-    pen: Pen,
-    at: u32,
-    angle: bool,
-) -> Run
-    requires { (classes.now ≡ class_table) × (length src.now ≤ longest_source) }
-    ensures { Lined src.now (leaves_from src.now at angle) table.old pen table.new result }
+fn rest_of_lines(source: Source, table: &mut [u32], pen: Pen, at: u32, angle: bool) -> Run
+    ensures { Lined source.entry.src.now (leaves_from source.entry.src.now at angle) table.old pen table.new result }
 {
     let mut held = pen;
     let mut i = at;
     let mut flag = angle;
-    while (i as usize) < src.len() {
-        let x = leaf_at(src, classes, i, flag);
+    'lines: while (i as usize) < source.src.len() {
+        let x = leaf_at(source, i, flag);
         held = parser::leaf(table, held, x);
-        if goes_on(src, classes, x.kind, x.end) {
+        if goes_on(source, x.kind, x.end) {
             i = x.end;
             flag = x.angle;
         } else {
-            let seen = parser::see(src, classes, x.end, x.angle);
+            let seen = parser::see(source, x.end, x.angle);
             return Run { seen, pen: held };
         }
     }
@@ -202,15 +188,16 @@ fn rest_of_lines(
 }
 
 // Takes a text line from a leaf on that is seen, and the lines behind it while they are seen to be text.
-pub fn text_lines(src: &[u8], classes: &Classes, table: &mut [u32], run: Run) -> Run
-    requires { (Reading src.now classes.now run.seen) × (run.seen.kind ≡ 0 → ⊥) }
-    ensures { Lined src.now (unread src.now run.seen) table.old run.pen table.new result }
+pub fn text_lines(source: Source, table: &mut [u32], run: Run) -> Run
+    requires held { Held source.src.now run.seen }
+    requires some { run.seen.kind ≡ 0 → ⊥ }
+    ensures { Lined source.entry.src.now (unread source.entry.src.now run.seen) table.old run.pen table.new result }
 {
     let x = run.seen;
     let pen = parser::leaf(table, run.pen, x);
-    if goes_on(src, classes, x.kind, x.end) {
-        return rest_of_lines(src, classes, table, pen, x.end, x.angle);
+    if goes_on(source, x.kind, x.end) {
+        return rest_of_lines(source, table, pen, x.end, x.angle);
     }
-    let seen = parser::see(src, classes, x.end, x.angle);
+    let seen = parser::see(source, x.end, x.angle);
     Run { seen, pen }
 }

@@ -9,10 +9,10 @@ use Rattle.parser.proofs.trivia.eat_trivia.Statement.{statement}
 use Rattle.parser.proofs.trivia.eat_trivia.Tie as tie
 
 abbrev invariant_loop : tie.invariant-loop-x
-invariant_loop src classes table₀ stop held₀ x₀ table held x = Writing src (before stop) table₀ held₀ x₀ table held x
+invariant_loop source table₀ stop held₀ x₀ table held x = Writing source.src.now (before stop) table₀ held₀ x₀ table held x
 
 abbrev decreases_loop : tie.decreases-loop-x
-decreases_loop src classes table₀ stop held₀ x₀ table held x = length (unread src x)
+decreases_loop source table₀ stop held₀ x₀ table held x = length (unread source.src.now x)
 
 pub eat_trivia_spec : {M : Type 1} → statement M
 eat_trivia_spec = tie.close (tie.spec
