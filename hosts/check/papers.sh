@@ -24,7 +24,8 @@ parts() {
     ! grep . "$work/broken"
 }
 
-# Names of code: `crate::module::name`, `crate::name`; not those of DESIGN-PASS.md, which has old names beside the new.
+# Names of code: `crate::module::name`, `crate::name`, `crate::Type::method`, which may stand in any file of the crate; not those of DESIGN-PASS.md, which
+# has old names beside the new.
 names() {
     for name in $(find docs -maxdepth 1 -name '*.md' ! -name DESIGN-PASS.md -exec grep -oh '`[a-z_]*::[A-Za-z_:]*`' {} + | tr -d '`' | sort -u); do
         crate=${name%%::*} last=${name##*::} rest=${name#*::}
@@ -32,7 +33,8 @@ names() {
         [ ! -f "crates/$crate/src/$last.rt" ] || continue
         from=crates/$crate/src/${rest%%::*}.rt
         [ -f "$from" ] || from=crates/$crate/src/lib.rt
-        grep -qE "\\<(fn|struct|const|enum|type) $last\\>|^    $last [{]" "$from" || echo "$name is not in $from"
+        case $rest in [A-Z]*::*) from=crates/$crate/src ;; esac
+        grep -rqE "\\<(fn|struct|const|enum|type) $last\\>|^    $last [{]" "$from" || echo "$name is not in $from"
     done >"$work/broken"
     ! grep . "$work/broken"
 }
