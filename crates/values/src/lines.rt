@@ -1,10 +1,12 @@
 // What the lines of a file say.
-ghost use Rattle.std.specs.Prelude.{◌<◌, length};
+ghost use Rattle.std.specs.Prelude.{◌≡◌, ◌%◌, ◌^◌, ◌<◌, length};
 ghost use Rattle.std.specs.Iterator.{at_most};
+ghost use Rattle.values.specs.Lines.{digit as Lines·digit, decimal};
 
 // A hexadecimal digit; other bytes count nothing: an Option would be taken apart at once for the same 0.
 fn digit(b: u8) -> u8
-    ensures { result < 16 }
+    ensures value { result ≡ Lines·digit b }
+    ensures upper_bound { result < 16 }
 {
     let d = literal::digit_value(b);
     if d < 16 { d as u8 } else { 0 }
@@ -32,9 +34,11 @@ impl<'a> Iterator for Bytes<'a> {
 }
 
 // A decimal number, by its last 32 bits.
-pub fn number(word: &[u8]) -> u32 {
-    word.iter().fold(
+pub fn number(word: &[u8]) -> u32
+    ensures { result ≡ decimal word.now % 2 ^ 32 }
+{
+    word.iter().copied().fold(
         0u32,
-        |n, b| n.wrapping_mul(10).wrapping_add(u32::from(digit(*b))),
+        |n, b| n.wrapping_mul(10).wrapping_add(u32::from(digit(b))),
     )
 }

@@ -1,0 +1,12 @@
+-- What the numbers of a line are.
+use Rattle.std.specs.Prelude.{ℕ, ◌+◌, ◌*◌, List, ltb, if◌then◌else◌}
+use Rattle.std.specs.List.{fold}
+use Rattle.definition.specs.Condition.Literal.{digit_value}
+
+-- What a hexadecimal digit counts; other bytes count nothing.
+abbrev pub digit : ℕ → ℕ
+digit b = if ltb (digit_value b) 16 then digit_value b else 0
+
+-- A decimal number.
+abbrev pub decimal : List ℕ → ℕ
+decimal word = fold (λ n b. n * 10 + digit b) 0 word
