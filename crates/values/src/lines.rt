@@ -1,7 +1,7 @@
 // What the lines of a file say.
 ghost use Rattle.std.specs.Prelude.{◌≡◌, ◌%◌, ◌^◌, ◌<◌, length};
 ghost use Rattle.std.specs.Iterator.{at_most};
-ghost use Rattle.values.specs.Lines.{digit as Lines·digit, decimal};
+ghost use Rattle.values.specs.Lines.{digit as Lines·digit, decimal, listed as Lines·listed};
 
 // A hexadecimal digit; other bytes count nothing: an Option would be taken apart at once for the same 0.
 fn digit(b: u8) -> u8
@@ -41,4 +41,17 @@ pub fn number(word: &[u8]) -> u32
         0u32,
         |n, b| n.wrapping_mul(10).wrapping_add(u32::from(digit(b))),
     )
+}
+
+// What an empty word is.
+const EMPTY: u32 = 0xA5A5_A5A5;
+
+// A word of a list of numbers.
+pub fn listed(word: &[u8]) -> u32
+    ensures { result ≡ Lines·listed word.now }
+{
+    if word.is_empty() {
+        return EMPTY;
+    }
+    number(word)
 }
