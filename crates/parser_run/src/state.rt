@@ -46,7 +46,6 @@ pub fn worse(before: bool, now: bool) -> bool
 }
 
 // Takes the leaf that is seen.
-#[tactic(auto, using(crate::proofs::Laws::took, crate::proofs::Laws::bump_rowed))]
 pub fn bump(src: &[u8], classes: &Classes, table: &mut [u32], state: ParserRun) -> ParserRun
     requires { Reading src.now classes.now state.run.seen }
     ensures { Took src.now reader.bump table.old state table.new result }
@@ -57,7 +56,6 @@ pub fn bump(src: &[u8], classes: &Classes, table: &mut [u32], state: ParserRun) 
 }
 
 // Takes the trivia that comes next.
-#[tactic(auto, using(crate::proofs::Laws::took, crate::proofs::Laws::trivia_rowed))]
 pub fn skip_trivia(src: &[u8], classes: &Classes, table: &mut [u32], state: ParserRun) -> ParserRun
     requires { Reading src.now classes.now state.run.seen }
     ensures { Took src.now reader.skip_trivia table.old state table.new result }
@@ -68,7 +66,6 @@ pub fn skip_trivia(src: &[u8], classes: &Classes, table: &mut [u32], state: Pars
 }
 
 // Takes the rest of the line, up to its NEWLINE or the end.
-#[tactic(auto, using(crate::proofs::Laws::took, crate::proofs::Laws::skip_rowed))]
 pub fn skip_inline(src: &[u8], classes: &Classes, table: &mut [u32], state: ParserRun) -> ParserRun
     requires { Reading src.now classes.now state.run.seen }
     ensures { Took src.now (reader.skip reader.inline) table.old state table.new result }
@@ -79,7 +76,6 @@ pub fn skip_inline(src: &[u8], classes: &Classes, table: &mut [u32], state: Pars
 }
 
 // Takes the leaf that is seen, but no NEWLINE.
-#[tactic(auto, using(crate::proofs::Parts::inline_none, crate::proofs::Parts::inline_bump))]
 pub fn bump_inline(src: &[u8], classes: &Classes, table: &mut [u32], state: ParserRun) -> ParserRun
     requires { Reading src.now classes.now state.run.seen }
     ensures { Took src.now (reader.maybe reader.inline reader.bump) table.old state table.new result }
@@ -92,7 +88,6 @@ pub fn bump_inline(src: &[u8], classes: &Classes, table: &mut [u32], state: Pars
 }
 
 // A node begins.
-#[tactic(auto, using(crate::proofs::Laws::moved))]
 pub fn start_node(
     table: &mut [u32],
     levels: &mut [usize; OPEN_LEVELS],
@@ -106,7 +101,6 @@ pub fn start_node(
 }
 
 // The innermost open node ends; it has this kind.
-#[tactic(auto, using(crate::proofs::Laws::moved_shut))]
 pub fn finish_node(
     table: &mut [u32],
     levels: &mut [usize; OPEN_LEVELS],
