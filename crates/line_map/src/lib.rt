@@ -16,17 +16,22 @@ use text::{Counted, newline, source, stretch};
 const STEP: usize = 64;
 
 // Behind the bytes at a place that begin no newline, up to one that does. No bound as in `pre::comment`, which would stop at every tab of an indented line.
+// Only where fewer than STEP bytes are left is each of them looked at: before, the look has found its byte.
 fn next_low(src: &[u8], at: usize) -> usize
     requires { at ≤ length src.now }
     ensures { Quiet src.now at result }
 {
     let quiet = |b: u8| b != b'\n' && b != b'\r';
     let steps = stretch::pass_to::<STEP, _>(src, at, &quiet);
+    if stretch::stand(src, steps, STEP) {
+        return steps;
+    }
     stretch::pass_each(src, steps, &quiet)
 }
 
-// Writes the line starts into a table, as far as it goes, and counts them all. The place goes on by a byte or a newline and the quiet bytes behind it,
-// which no for counts.
+// Writes the line starts into a table, as far as it goes, and counts them all. The place goes on by one byte and the quiet bytes behind it, which no for
+// counts, or by a newline of two bytes alone: what stands behind that begins with a look at its first byte. Each length has an arm of its own, since a
+// processor foresees which arm is taken, and would wait for a length that is added.
 pub fn fill(src: &[u8], lines: &mut [u32]) -> usize
     requires { length src.now ≤ longest_source }
     ensures { Written (line_starts src.now) lines.old result lines.new }
@@ -35,13 +40,20 @@ pub fn fill(src: &[u8], lines: &mut [u32]) -> usize
     let mut n: usize = 1;
     let mut i = 0;
     while i < src.len() {
-        let w = newline::newline_at(src, i);
-        i += w.max(1);
-        if 0 < w {
-            table::put(lines, n, i as u32);
-            n += 1;
+        match newline::newline_at(src, i) {
+            0 => i = next_low(src, i + 1),
+            1 => {
+                i += 1;
+                table::put(lines, n, i as u32);
+                n += 1;
+                i = next_low(src, i);
+            }
+            w => {
+                i += w;
+                table::put(lines, n, i as u32);
+                n += 1;
+            }
         }
-        i = next_low(src, i);
     }
     n
 }
