@@ -1,7 +1,7 @@
 // The line table of a source, and looking an offset up in one (line_map.rs).
 #![tactic(auto)]
 
-ghost use Rattle.std.specs.Prelude.{◌≡◌, ◌≤◌, true, length, IfOk};
+ghost use Rattle.std.specs.Prelude.{◌≡◌, ◌≤◌, ◌⊎◌, true, length, replicate, IfOk, IfErr};
 ghost use Rattle.definition.specs.LineMap.{line_starts, line_table};
 ghost use Rattle.definition.specs.Calls.{longest_source, building_lines, looking_up};
 ghost use Rattle.line_map.specs.Lookup.{looked, LooksUp, rising, Lies};
@@ -58,15 +58,17 @@ pub fn fill(src: &[u8], lines: &mut [u32]) -> usize
     n
 }
 
-// Writes the line starts into a cleared table, or says why the call is refused.
+// Writes the line starts into a cleared table, or says why the call is refused: the table is then as it came, or cleared again if it was too short.
 fn starts_into(src: &[u8], lines: &mut [u32]) -> Result<u32, Refusal>
     ensures code { code result ≡ (building_lines src.now (length lines.old)).refused }
     ensures written { IfOk result (λ n. Written (line_starts src.now) lines.old n lines.new) }
     ensures fits { IfOk result (λ n. n ≤ length lines.new) }
+    ensures refused { IfErr result (λ r. (lines.new ≡ lines.old) ⊎ (lines.new ≡ replicate (length lines.old) 0)) }
 {
     source::check(src)?;
     let n = fill(src, lines);
     if lines.len() < n {
+        table::clear(lines);
         return Err(Refusal::Lines);
     }
     Ok(n as u32)
@@ -77,11 +79,7 @@ pub fn build(src: &[u8], lines: &mut [u32]) -> Counted
     ensures { Fills (building_lines src.now (length lines.old)) result lines.new }
 {
     table::clear(lines);
-    let outcome = starts_into(src, lines);
-    if outcome.is_err() {
-        table::clear(lines);
-    }
-    Counted::from(outcome)
+    Counted::from(starts_into(src, lines))
 }
 
 // Whether each number is above the one before it.
