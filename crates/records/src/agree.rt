@@ -7,6 +7,7 @@ ghost use Rattle.table.specs.Fills.{Fills};
 ghost use Rattle.records.specs.Rubbish.{room as Rubbish·room};
 ghost use Rattle.records.specs.Stand.{passed as Stand·passed, ConvertsBy};
 ghost use Rattle.records.specs.Answers.{FillsBy, filled_numbers, reading_numbers, looked_numbers, table_behind, read_behind, lookup_behind, paste_behind, answer_behind};
+ghost use Rattle.records.specs.Called.{Calls, numbered_behind};
 
 use crate::number::{decode, number};
 use crate::rubbish::{BYTE, MOST, NUMBER, Rooms, room};
@@ -14,7 +15,7 @@ use crate::stand::passed;
 use tables::Reading;
 use text::Counted;
 
-// The calls that are recorded.
+// The calls that are recorded,
 #[derive(Debug, Clone, Copy, PartialEq, Eq)]
 pub enum Call {
     Tokens,
@@ -24,6 +25,46 @@ pub enum Call {
     Paste,
     Read,
     Body,
+}
+
+// and their numbers.
+pub const TOKENS: u8 = 1;
+
+pub const LINES: u8 = 2;
+
+pub const UNESCAPE: u8 = 3;
+
+pub const LOOKUP: u8 = 4;
+
+pub const PASTE: u8 = 5;
+
+pub const READ: u8 = 6;
+
+pub const BODY: u8 = 7;
+
+// No call has this number.
+#[derive(Debug, Clone, Copy, PartialEq, Eq)]
+pub struct NoCall {
+    pub number: u8,
+}
+
+impl TryFrom<u8> for Call {
+    type Error = NoCall;
+
+    ghost try_from_gives = { Calls };
+
+    fn try_from(number: u8) -> Result<Self, NoCall> {
+        match number {
+            TOKENS => Ok(Call::Tokens),
+            LINES => Ok(Call::Lines),
+            UNESCAPE => Ok(Call::Unescape),
+            LOOKUP => Ok(Call::Lookup),
+            PASTE => Ok(Call::Paste),
+            READ => Ok(Call::Read),
+            BODY => Ok(Call::Body),
+            _ => Err(NoCall { number }),
+        }
+    }
 }
 
 // Fills a table by a call, and compares the outcome.
@@ -151,4 +192,12 @@ pub fn answered<'a>(call: Call, n: u32, input: &[u8], s: &'a [u8]) -> Option<&'a
         Call::Read => read_input(n, input, s),
         Call::Body => numbers(shader_reader::shader_define_body, n, input, s),
     }
+}
+
+// The call of a number; none also where there is no such call.
+pub fn answered_number<'a>(call: u8, n: u32, input: &[u8], s: &'a [u8]) -> Option<&'a [u8]>
+    ensures { option_copied result ≡ numbered_behind call n input.now s.now }
+{
+    let call = Call::try_from(call).ok()?;
+    answered(call, n, input, s)
 }

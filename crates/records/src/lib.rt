@@ -8,6 +8,7 @@ mod stand;
 
 ghost use Rattle.std.specs.Prelude.{◌≡◌, ◌<◌, length, IfSome, option_copied};
 ghost use Rattle.records.specs.Compared.{behind as Compared·behind, compared};
+ghost use Rattle.records.specs.Called.{numbered_compared};
 
 use agree::Call;
 use number::{number, pair};
@@ -48,4 +49,15 @@ pub fn compare(call: Call, s: &[u8]) -> Result<usize, Differs>
         rest = behind(call, rest).ok_or(Differs { number: records })?;
     }
     Ok(records)
+}
+
+// Compares the records of the call of a number: where there is no such call, the first differs.
+pub fn compare_number(call: u8, s: &[u8]) -> Result<usize, Differs>
+    ensures { result ≡ numbered_compared call s.now }
+{
+    match Call::try_from(call) {
+        Ok(call) => compare(call, s),
+        Err(_) if s.is_empty() => Ok(0),
+        Err(_) => Err(Differs { number: 1 }),
+    }
 }
