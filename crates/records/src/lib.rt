@@ -6,7 +6,8 @@ mod number;
 pub mod rubbish;
 mod stand;
 
-ghost use Rattle.std.specs.Prelude.{◌≡◌, ◌<◌, length, IfSome, option_copied};
+ghost use Rattle.std.specs.Prelude.{◌≡◌, ◌<◌, ◌++◌, length, codes, Some, IfSome, option_copied};
+ghost use Rattle.std.specs.Fmt.{decimal};
 ghost use Rattle.records.specs.Compared.{behind as Compared·behind, compared};
 ghost use Rattle.records.specs.Called.{numbered_compared};
 
@@ -21,6 +22,8 @@ pub struct Differs {
 }
 
 impl fmt::Display for Differs {
+    ghost output = { λ d. Some (codes "first difference," ++ decimal d.number) };
+
     fn fmt<W: fmt::Write>(&self, f: &mut fmt::Formatter<W>) -> fmt::Result {
         let number = self.number;
         write!(f, "first difference,{number}")
