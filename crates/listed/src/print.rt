@@ -1,5 +1,6 @@
 // The lines of a listing: a word, and numbers behind commas.
-ghost use Rattle.std.specs.Prelude.{◌≡◌, ◌<◌, take};
+ghost use Rattle.std.specs.Prelude.{◌≡◌, ◌<◌, ◌∷◌, flat_map, take, Some};
+ghost use Rattle.std.specs.Fmt.{decimal};
 
 use std::{fmt, io};
 use tables::{ENTRY, Reading};
@@ -15,6 +16,8 @@ const LEAF: u32 = 0;
 pub struct Fields<'a>(pub &'a [u32]);
 
 impl<'a> fmt::Display for Fields<'a> {
+    ghost output = { λ fields. Some (flat_map (λ n. 44 ∷ decimal n) fields.0.now) };
+
     fn fmt<W: fmt::Write>(&self, f: &mut fmt::Formatter<W>) -> fmt::Result {
         for n in self.0 {
             write!(f, ",{n}")?;

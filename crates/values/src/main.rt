@@ -4,7 +4,6 @@
 
 mod lines;
 
-use lines::Bytes;
 use std::fs::File;
 use std::io;
 use std::io::Read;
@@ -44,7 +43,7 @@ const FILES: [&str; 21] = [
 fn show(rt: &HostRuntime, line: &[u8], list: &[u32], text: &[u8]) -> io::Result<()>
     ensures { Unit {0} }
 {
-    let expression: Vec<u8> = Bytes(line).take(MOST).collect(rt.alloc())?;
+    let expression = lines::first_bytes(rt.alloc(), line, MOST)?;
     let got = condition::value(&expression, list, text);
     rt.write_all(line)?;
     println!(rt; ",{},{}", got.refusal, got.value)
@@ -54,7 +53,7 @@ fn show(rt: &HostRuntime, line: &[u8], list: &[u32], text: &[u8]) -> io::Result<
 fn show_lines(rt: &HostRuntime, text: &[u8], list: &[u8], lines: &[u8]) -> io::Result<()>
     ensures { Unit {0} }
 {
-    let named: Vec<u8> = Bytes(text).take(MOST).collect(rt.alloc())?;
+    let named = lines::first_bytes(rt.alloc(), text, MOST)?;
     let numbers: Vec<u32> = list
         .split(|b| *b == b' ')
         .skip(1)
