@@ -6,14 +6,16 @@ use std::io::Read;
 use std::{env, io};
 
 // As much of a file is read.
-const SIZE: u64 = 4_096;
+const SIZE: usize = 4_096;
 
 // Shows a source under its name.
 fn show(rt: &HostRuntime, name: &str) -> io::Result<()>
     ensures { Unit {0} }
 {
-    let mut src = Vec::new(rt.alloc());
-    File::open(rt, name)?.take(SIZE).read_to_end(&mut src)?;
+    let mut file = File::open(rt, name)?.take(SIZE as u64);
+    // With this room the first read asks for all of it.
+    let mut src = Vec::with_capacity(rt.alloc(), SIZE)?;
+    file.read_to_end(&mut src)?;
     println!(rt; "{name}")?;
     listed::listing(rt, &src)?;
     listed::lengths::readings(rt, &src)?;
