@@ -3,7 +3,7 @@ ghost use Rattle.std.specs.Prelude.{◌≡◌};
 ghost use Rattle.definition.specs.SyntaxKind.{Kind as SyntaxKind};
 ghost use Rattle.tree.specs.Machine.{Open, writer, step};
 ghost use Rattle.parser.specs.Rest.{unread, Held};
-ghost use Rattle.parser.specs.Passed.{Passed, Behind};
+ghost use Rattle.parser.specs.Passed.{Passed};
 ghost use Rattle.rows.specs.Rowed.{seen_event, concat_from, pasting_shut, Rowed};
 
 use crate::BodyRow;
@@ -13,14 +13,6 @@ use parser::trivia::Trivia;
 use syntax_kind::number::Kind;
 use tree::Pen;
 use tree::level::{MOST_CONCATS, OPEN_LEVELS};
-
-// Passes over the trivia behind a leaf. It has a frame of its own, since that of `pp_concat` stands on the stack once for each ##.
-#[inline(never)]
-fn behind(source: &Source, x: Seen) -> Trivia
-    ensures { Behind source.now.src.now x.end x.angle result }
-{
-    parser::trivia::behind(*source, x.end, x.angle)
-}
 
 // The inside of a PP_CONCAT from its ## on, x. A further ## opens a node inside, to the row's end; allowance: how many more may do so. The source is
 // lent: handed by value, it would stand once more on the stack for each ##.
@@ -41,7 +33,7 @@ fn pp_concat(
     let mut over = false;
     'paste: loop {
         let b = parser::leaf(table, held, y);
-        let p = behind(source, y);
+        let p = parser::trivia::behind(*source, y.end, y.angle);
         let next = p.next;
         if parser::ends_row(next.kind) {
             return BodyRow {
