@@ -153,7 +153,7 @@ fn paste<'a>(lhs: u32, input: &[u8], s: &'a [u8]) -> Option<&'a [u8]>
 }
 
 // Fills a table of n numbers,
-fn numbers<'a, F: FnOnce(&[u8], &mut [u32]) -> Counted>(
+fn numbers_filled<'a, F: FnOnce(&[u8], &mut [u32]) -> Counted>(
     call: F,
     n: u32,
     src: &[u8],
@@ -184,13 +184,13 @@ pub fn answered<'a>(call: Call, n: u32, input: &[u8], s: &'a [u8]) -> Option<&'a
     ensures { option_copied result ≡ answer_behind call n input.now s.now }
 {
     match call {
-        Call::Tokens => numbers(shader_reader::shader_tokens, n, input, s),
-        Call::Lines => numbers(shader_reader::shader_line_table, n, input, s),
+        Call::Tokens => numbers_filled(shader_reader::shader_tokens, n, input, s),
+        Call::Lines => numbers_filled(shader_reader::shader_line_table, n, input, s),
         Call::Unescape => unescape(n, input, s),
         Call::Lookup => lookup(n, input, s),
         Call::Paste => paste(n, input, s),
         Call::Read => read_input(n, input, s),
-        Call::Body => numbers(shader_reader::shader_define_body, n, input, s),
+        Call::Body => numbers_filled(shader_reader::shader_define_body, n, input, s),
     }
 }
 

@@ -8,7 +8,7 @@ use std::io;
 use std::io::Read;
 
 // As much of a file is read: more than each has.
-const SIZE: u64 = 524_288;
+const SIZE: usize = 524_288;
 
 // In this order, each with the name of its file.
 const CALLS: [(Call, &str); 7] = [
@@ -25,8 +25,9 @@ const CALLS: [(Call, &str); 7] = [
 fn replay(rt: &HostRuntime, call: Call, name: &str) -> io::Result<()>
     ensures { Unit {0} }
 {
-    let mut file = Vec::new(rt.alloc());
-    File::open(rt, name)?.take(SIZE).read_to_end(&mut file)?;
+    let mut from = File::open(rt, name)?.take(SIZE as u64);
+    let mut file = Vec::with_capacity(rt.alloc(), SIZE)?;
+    from.read_to_end(&mut file)?;
     match records::compare(call, &file) {
         Ok(records) => println!(rt; "{name},same,{records}"),
         Err(differs) => println!(rt; "{name},{differs}"),
