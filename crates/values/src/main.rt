@@ -9,7 +9,7 @@ use std::io;
 use std::io::Read;
 
 // As much of a file is read,
-const SIZE: u64 = 65_536;
+const SIZE: usize = 65_536;
 
 // and so many bytes of an expression or of the text, and numbers of the list.
 const MOST: usize = 4_096;
@@ -86,8 +86,9 @@ fn show_file(rt: &HostRuntime, s: &[u8]) -> io::Result<()>
 fn show_named(rt: &HostRuntime, name: &str) -> io::Result<()>
     ensures { Unit {0} }
 {
-    let mut file = Vec::new(rt.alloc());
-    File::open(rt, name)?.take(SIZE).read_to_end(&mut file)?;
+    let mut from = File::open(rt, name)?.take(SIZE as u64);
+    let mut file = Vec::with_capacity(rt.alloc(), SIZE)?;
+    from.read_to_end(&mut file)?;
     println!(rt; "{name}")?;
     show_file(rt, &file)
 }
