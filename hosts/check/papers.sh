@@ -24,10 +24,10 @@ parts() {
     ! grep . "$work/broken"
 }
 
-# Names of code: `crate::module::name`, `crate::name`, `crate::Type::method`, which may stand in any file of the crate; not those of DESIGN-PASS.md, which
-# has old names beside the new.
+# Names of code: `crate::module::name`, `crate::name`, `crate::Type::method`, which may stand in any file of the crate; not those of DESIGN-PASS.md and
+# LOOK-BACK.md, which have old names beside the new.
 names() {
-    for name in $(find docs -maxdepth 1 -name '*.md' ! -name DESIGN-PASS.md -exec grep -oh '`[a-z_]*::[A-Za-z_:]*`' {} + | tr -d '`' | sort -u); do
+    for name in $(find docs -maxdepth 1 -name '*.md' ! -name DESIGN-PASS.md ! -name LOOK-BACK.md -exec grep -oh '`[a-z_]*::[A-Za-z_:]*`' {} + | tr -d '`' | sort -u); do
         crate=${name%%::*} last=${name##*::} rest=${name#*::}
         [ -d "crates/$crate/src" ] || continue
         [ ! -f "crates/$crate/src/$last.rt" ] || continue

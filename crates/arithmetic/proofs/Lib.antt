@@ -3,3 +3,4 @@ pub mod Bitwise
 pub mod Shifts
 pub mod Matches
 pub mod Sides
+pub mod Telling

@@ -102,7 +102,7 @@ module _ (kind : ℕ) {a : Result ℤ Refusal} {x : ℤ} (p : a ≡ Ok x) (f : S
         by (inr n) (inl (k, z)) = rw (k, zero_yes f z) refl
         by (inr n) (inr m) = neither kind x n m
 
-    right_decides : (b : Outcome) → after b (operated kind x) ≡ joined kind (told a) b
+    pub right_decides : (b : Outcome) → after b (operated kind x) ≡ joined kind (told a) b
     unfolding joins
     right_decides b = goes_on _ p (rw undecided refl)
 

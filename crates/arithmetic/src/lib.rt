@@ -1,6 +1,7 @@
 // Values of 32 bits, and what the operators of an expression do with them (Req 03).
 #![tactic(auto)]
 
+pub mod answers;
 pub mod binary;
 pub mod integer;
 pub mod rank;

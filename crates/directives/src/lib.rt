@@ -4,6 +4,7 @@
 pub mod body;
 pub mod define;
 pub mod rest;
+pub mod state;
 
 ghost use Rattle.std.specs.Prelude.{◌≡◌, false, length};
 ghost use Rattle.definition.specs.Tree.{body_kind};

@@ -6,6 +6,7 @@ use Rattle.table.specs.Row.{Page, page, put}
 use Rattle.error.specs.declared.ErrorKind.{ErrorKind}
 use Rattle.error.specs.declared.ErrorKind.TheVariants.{UnknownDirective, ExtraTokens, Unexpected, EndOfInput}
 use Rattle.error.specs.declared.Fault.{Fault}
+use Rattle.error.specs.declared.numbered.Numbers.{Numbers}
 
 -- Where the start, the line and the column of an error stand, counted from its first number, the sort.
 abbrev pub Offset : record { start : ℕ; line : ℕ; column : ℕ }
@@ -39,6 +40,19 @@ met f = record {
   expected2 = f.expected2;
   first = f.first;
   past = f.past;
+}
+
+-- The same of one whose sort is any number.
+abbrev pub numbered : Numbers → Met
+numbered e = record {
+  sort = e.sort;
+  start = e.start;
+  end = e.end;
+  actual = e.actual;
+  expected1 = e.expected1;
+  expected2 = e.expected2;
+  first = e.first;
+  past = e.past;
 }
 
 -- An error of the definition as it is met: up to two expected kinds, 0 where there is none.

@@ -1,6 +1,8 @@
 // Groups: brackets behind a HASH (`pp_rs_ident` of `syntax.rs`).
 #![tactic(auto)]
 
+pub mod state;
+
 ghost use Rattle.std.specs.Prelude.{◌≡◌, ◌≤◌, length};
 ghost use Rattle.definition.specs.SyntaxKind.{Kind as SyntaxKind};
 ghost use Rattle.definition.specs.Calls.{longest_source};

@@ -1,7 +1,7 @@
 // The line table of a source, and looking an offset up in one (line_map.rs).
 #![tactic(auto)]
 
-ghost use Rattle.std.specs.Prelude.{◌≡◌, ◌≤◌, true, length, IfOk};
+ghost use Rattle.std.specs.Prelude.{◌≡◌, ◌≤◌, ◌⊎◌, true, length, replicate, IfOk, IfErr};
 ghost use Rattle.definition.specs.LineMap.{line_starts, line_table};
 ghost use Rattle.definition.specs.Calls.{longest_source, building_lines, looking_up};
 ghost use Rattle.line_map.specs.Lookup.{looked, LooksUp, rising, Lies};
@@ -16,17 +16,22 @@ use text::{Counted, newline, source, stretch};
 const STEP: usize = 64;
 
 // Behind the bytes at a place that begin no newline, up to one that does. No bound as in `pre::comment`, which would stop at every tab of an indented line.
+// Only where fewer than STEP bytes are left is each of them looked at: before, the look has found its byte.
 fn next_low(src: &[u8], at: usize) -> usize
     requires { at ≤ length src.now }
     ensures { Quiet src.now at result }
 {
     let quiet = |b: u8| b != b'\n' && b != b'\r';
     let steps = stretch::pass_to::<STEP, _>(src, at, &quiet);
+    if stretch::stand(src, steps, STEP) {
+        return steps;
+    }
     stretch::pass_each(src, steps, &quiet)
 }
 
-// Writes the line starts into a table, as far as it goes, and counts them all. The place goes on by a byte or a newline and the quiet bytes behind it,
-// which no for counts.
+// Writes the line starts into a table, as far as it goes, and counts them all. The place goes on by one byte and the quiet bytes behind it, which no for
+// counts, or by a newline of two bytes alone: what stands behind that begins with a look at its first byte. Each length has an arm of its own, since a
+// processor foresees which arm is taken, and would wait for a length that is added.
 pub fn fill(src: &[u8], lines: &mut [u32]) -> usize
     requires { length src.now ≤ longest_source }
     ensures { Written (line_starts src.now) lines.old result lines.new }
@@ -35,26 +40,35 @@ pub fn fill(src: &[u8], lines: &mut [u32]) -> usize
     let mut n: usize = 1;
     let mut i = 0;
     while i < src.len() {
-        let w = newline::newline_at(src, i);
-        i += w.max(1);
-        if 0 < w {
-            table::put(lines, n, i as u32);
-            n += 1;
+        match newline::newline_at(src, i) {
+            0 => i = next_low(src, i + 1),
+            1 => {
+                i += 1;
+                table::put(lines, n, i as u32);
+                n += 1;
+                i = next_low(src, i);
+            }
+            w => {
+                i += w;
+                table::put(lines, n, i as u32);
+                n += 1;
+            }
         }
-        i = next_low(src, i);
     }
     n
 }
 
-// Writes the line starts into a cleared table, or says why the call is refused.
+// Writes the line starts into a cleared table, or says why the call is refused: the table is then as it came, or cleared again if it was too short.
 fn starts_into(src: &[u8], lines: &mut [u32]) -> Result<u32, Refusal>
     ensures code { code result ≡ (building_lines src.now (length lines.old)).refused }
     ensures written { IfOk result (λ n. Written (line_starts src.now) lines.old n lines.new) }
     ensures fits { IfOk result (λ n. n ≤ length lines.new) }
+    ensures refused { IfErr result (λ r. (lines.new ≡ lines.old) ⊎ (lines.new ≡ replicate (length lines.old) 0)) }
 {
     source::check(src)?;
     let n = fill(src, lines);
     if lines.len() < n {
+        table::clear(lines);
         return Err(Refusal::Lines);
     }
     Ok(n as u32)
@@ -65,11 +79,7 @@ pub fn build(src: &[u8], lines: &mut [u32]) -> Counted
     ensures { Fills (building_lines src.now (length lines.old)) result lines.new }
 {
     table::clear(lines);
-    let outcome = starts_into(src, lines);
-    if outcome.is_err() {
-        table::clear(lines);
-    }
-    Counted::from(outcome)
+    Counted::from(starts_into(src, lines))
 }
 
 // Whether each number is above the one before it.

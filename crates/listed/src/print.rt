@@ -1,5 +1,6 @@
 // The lines of a listing: a word, and numbers behind commas.
-ghost use Rattle.std.specs.Prelude.{◌<◌};
+ghost use Rattle.std.specs.Prelude.{◌≡◌, ◌<◌, ◌∷◌, flat_map, take, Some};
+ghost use Rattle.std.specs.Fmt.{decimal};
 
 use std::{fmt, io};
 use tables::{ENTRY, Reading};
@@ -15,6 +16,8 @@ const LEAF: u32 = 0;
 pub struct Fields<'a>(pub &'a [u32]);
 
 impl<'a> fmt::Display for Fields<'a> {
+    ghost output = { λ fields. Some (flat_map (λ n. 44 ∷ decimal n) fields.0.now) };
+
     fn fmt<W: fmt::Write>(&self, f: &mut fmt::Formatter<W>) -> fmt::Result {
         for n in self.0 {
             write!(f, ",{n}")?;
@@ -23,24 +26,31 @@ impl<'a> fmt::Display for Fields<'a> {
     }
 }
 
-// Prints the first n rows of a table, each behind the same word.
-fn rows<P: Print>(rt: &P, word: &str, t: &[u32], width: usize, n: u32) -> io::Result<()>
+// The first n numbers of a table, or as many as it has.
+fn used(t: &[u32], n: usize) -> &[u32]
+    ensures { result.now ≡ take n t.now }
+{
+    t.get(..n).unwrap_or(t)
+}
+
+// Prints the rows of a table, each behind the same word.
+fn rows<P: Print>(rt: &P, word: &str, t: &[u32], width: usize) -> io::Result<()>
     requires { 0 < width }
     ensures { Unit {0} }
 {
-    for row in t.chunks_exact(width).take(n as usize) {
+    for row in t.chunks_exact(width) {
         let fields = Fields(row);
         println!(rt; "{word}{fields}")?;
     }
     Ok(())
 }
 
-// Prints the first n entries, each behind the word for its form. (One function with `rows` would be no plainer: only an entry's word stands in its row.)
-fn entry_rows<P: Print>(rt: &P, t: &[u32], n: u32) -> io::Result<()>
+// Prints entries, each behind the word for its form. (One function with `rows` would be no plainer: only an entry's word stands in its row.)
+fn entry_rows<P: Print>(rt: &P, t: &[u32]) -> io::Result<()>
     ensures { Unit {0} }
 {
     let (rows, _) = t.as_chunks::<ENTRY>();
-    for row in rows.iter().take(n as usize) {
+    for row in rows {
         let word = if row[0] == LEAF { "leaf" } else { "node" };
         let fields = Fields(&row[1..]);
         println!(rt; "{word}{fields}")?;
@@ -61,7 +71,8 @@ pub fn reading<P: Print>(
     let counts = [got.refusal, got.entries, got.errors, got.lines];
     let answer = Fields(&counts);
     println!(rt; "answer{answer}")?;
-    entry_rows(rt, entries, got.entries)?;
-    rows(rt, "error", errors, ERROR, got.errors)?;
-    rows(rt, "line", lines, 1, got.lines)
+    entry_rows(rt, used(entries, got.entries as usize * ENTRY))?;
+    let met = used(errors, got.errors as usize * ERROR);
+    rows(rt, "error", met, ERROR)?;
+    rows(rt, "line", used(lines, got.lines as usize), 1)
 }

@@ -7,6 +7,7 @@ ghost use Rattle.definition.specs.Condition.Meaning.{names, spells, first, value
 ghost use Rattle.definition.specs.Condition.Value.{truth};
 ghost use Rattle.arithmetic.specs.Told.{told};
 ghost use Rattle.names.specs.Named.{named, found};
+ghost use Rattle.names.specs.Place.{Finds, Begins};
 
 use text::refusal::Refusal;
 
@@ -20,6 +21,9 @@ pub struct Name {
     pub bits: u32,
 }
 
+// How many numbers a name has.
+const WIDTH: usize = 4;
+
 // Whether a name in a text is a word, both unescaped; it must not be empty, and lie inside the text.
 #[tactic(auto, unfolding(definition::specs::Condition::Meaning::spells))]
 fn spelt(text: &[u8], name: Name, word: &[u8]) -> bool
@@ -30,10 +34,9 @@ fn spelt(text: &[u8], name: Name, word: &[u8]) -> bool
     start < end && end <= text.len() && unescaped::same_unescaped(&text[start..end], word)
 }
 
-// The first name that is a word, unescaped; numbers behind the last four are no name.
-#[tactic(auto, unfolding(definition::specs::Condition::Meaning::names, definition::specs::Condition::Meaning::first))]
-pub fn find(list: &[u32], text: &[u8], word: &[u8]) -> Option<Name>
-    ensures { found result ≡ first text.now (unescaped word.now) (names list.now) }
+// The end of the list that begins with the first name that is a word, unescaped; numbers behind the last four are no name.
+fn from_first<'a>(list: &'a [u32], text: &[u8], word: &[u8]) -> &'a [u32]
+    ensures { Begins list.now text.now (unescaped word.now) result.now }
 {
     let mut rest = list;
     while let [start, end, mark, bits, behind @ ..] = rest {
@@ -44,11 +47,37 @@ pub fn find(list: &[u32], text: &[u8], word: &[u8]) -> Option<Name>
             bits: *bits,
         };
         if spelt(text, name, word) {
-            return Some(name);
+            return rest;
         }
         rest = behind;
     }
-    None
+    rest
+}
+
+// The first name that is a word, unescaped.
+pub fn find(list: &[u32], text: &[u8], word: &[u8]) -> Option<Name>
+    ensures { found result ≡ first text.now (unescaped word.now) (names list.now) }
+{
+    let [start, end, mark, bits, ..] = from_first(list, text, word) else {
+        return None;
+    };
+    Some(Name {
+        start: *start,
+        end: *end,
+        mark: *mark,
+        bits: *bits,
+    })
+}
+
+// The place of the first name that is a word, unescaped; where there is none, a place behind the last.
+pub fn place(list: &[u32], text: &[u8], word: &[u8]) -> usize
+    ensures { Finds list.now text.now (unescaped word.now) result }
+{
+    let rest = from_first(list, text, word);
+    if rest.len() < WIDTH {
+        return list.len();
+    }
+    list.len() - rest.len()
 }
 
 // The value of a word that is a name; it needs one.

@@ -5,8 +5,11 @@ use Rattle.std.proofs.Math.Seq.{slice}
 use Rattle.definition.specs.Text.{Kind}
 use Rattle.definition.specs.Tree.{Leaf, leaves, stop}
 use Rattle.definition.specs.Parser.{Reader}
+use Rattle.definition.specs.Calls.{longest_source}
 use Rattle.theorems.specs.BodyRows.{ends}
 use Rattle.theorems.specs.LeavesFrom.{leaves_from}
+use Rattle.syntax_kind.specs.declared.kind.SyntaxKind.{SyntaxKind}
+use Rattle.pre.specs.Table.{class_table}
 use Rattle.tree.specs.Machine.{sheet, leafs}
 use Rattle.tree.specs.declared.Pen.{Pen}
 use Rattle.parser.specs.declared.Seen.{Seen}
@@ -45,6 +48,12 @@ trivial k = eqb k Kind.WS || eqb k Kind.COMMENT
 
 abbrev pub inlined : ℕ → Bool  -- A leaf other than NEWLINE.
 inlined k = not (ends k)
+
+-- What functions ask that are handed the source and the classes: the table of classes, a source that is not refused for its length, and a leaf that is held.
+pub record Reading (src : List ℕ) (classes : List SyntaxKind) (s : Seen) : Type 0 where
+  pub table : classes ≡ class_table
+  pub short : length src ≤ longest_source
+  pub held : Held src s
 
 -- A call that takes leaves as a reader does, without nodes or errors.
 pub record Takes (src : List ℕ) (p : Reader) (t : List ℕ) (r : Run) (t' : List ℕ) (r' : Run) : Type 0 where

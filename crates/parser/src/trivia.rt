@@ -38,7 +38,8 @@ fn pass(source: Source, x: Seen) -> Trivia
     row_of(x, next)
 }
 
-// Passes over the trivia from a leaf on that is seen.
+// Passes over the trivia from a leaf on that is seen. Where it is called, what was just seen needs not go through memory.
+#[inline(always)]
 pub fn buffer_trivia(source: Source, x: Seen) -> Trivia
     requires { Held source.src.now x }
     ensures { Passes source.entry.src.now x result }
@@ -49,7 +50,8 @@ pub fn buffer_trivia(source: Source, x: Seen) -> Trivia
     row_of(x, x)
 }
 
-// Passes over the trivia from a place on.
+// Passes over the trivia from a place on. It has a frame of its own, since that of `rows::concat::pp_concat` stands on the stack once for each ##.
+#[inline(never)]
 pub fn behind(source: Source, at: u32, angle: bool) -> Trivia
     ensures { Behind source.entry.src.now at angle result }
 {

@@ -11,12 +11,13 @@ use Rattle.theorems.specs.Height.{crowded}
 use Rattle.theorems.proofs.Grammar.Clean.{or_left}
 use Rattle.theorems.proofs.Heights.Laws.{crowded-▹, crowded_node, crowded_row}
 use Rattle.theorems.proofs.Tiling.Leaves.{leaves_row}
-use Rattle.tree.specs.Machine.{Open, Shut, writer, sheet, with_levels, events, step, run}
+use Rattle.tree.specs.Machine.{Event, Open, Shut, writer, sheet, with_levels, events, step, run}
+use Rattle.tree.specs.declared.Pen.{Pen}
 use Rattle.tree.proofs.Runs.{run-▹, run_node, run_row}
 use Rattle.error.specs.Log.{log, add, adds, fault_of}
 use Rattle.error.proofs.Adds.{adds_++}
 use Rattle.parser.specs.declared.Run.{Run}
-use Rattle.parser.specs.Rest.{unread, Held, Takes}
+use Rattle.parser.specs.Rest.{run_of, unread, Held, Takes}
 use Rattle.parser_run.specs.declared.ParserRun.{ParserRun}
 use Rattle.parser_run.specs.Reads.{with_run, Stand, stand, writer_at, log_at, unread_at, Gives, Reads, Took, Moves, Logs}
 
@@ -135,6 +136,14 @@ took {p} w src t t' st st' r k e =
         };
       };
     })
+
+-- The two events of a node,
+module _ (t o t' o' : List ℕ) (st st' : ParserRun) (r : Run) (p : Pen) (i : r ≡ run_of st.run.seen p) (e : st' ≡ with_run st r) where
+  pub moved : (v : Event) → writer t' o' p ≡ step v (writer t o st.run.pen) → Moves v t o st t' o' st'
+  moved v w = rw (e, i) (record { writes = w; seen = refl; errs = refl; over = refl })
+
+  pub moved_shut : (k n : ℕ) → n ≡ k → writer t' o' p ≡ step (Shut n) (writer t o st.run.pen) → Moves (Shut k) t o st t' o' st'
+  moved_shut k n q w = moved (Shut k) (rw (← q) w)
 
 -- For loops: what leads to an end from m as p does leads there from m₀ as p₀ does.
 pub record Toward (src : List ℕ) (p : Reader) (m : Stand) (p₀ : Reader) (m₀ : Stand) : Type 0 where

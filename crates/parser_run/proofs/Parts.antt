@@ -8,20 +8,44 @@ use borrow.Author.Tests.{eq-eqb, ne_eqb, eqb-true, eqb-false}
 use lib.Dec.{eqb}
 use lib.ListN.{length, get_or}
 use Rattle.definition.specs.Text.{Kind}
-use Rattle.definition.specs.Tree.{Leaf}
+use Rattle.definition.specs.Tree.{Leaf, body_kind}
 use Rattle.definition.specs.Error.{unexpected}
-use Rattle.definition.specs.Parser.{is, newline_leaf, inline, peek, push, raise, wrap, nothing, bump, maybe, expect_one}
+use Rattle.definition.specs.Parser.{is, newline_leaf, inline, peek, push, raise, Reader, wrap, nothing, bump, maybe, expect_one}
 use Rattle.theorems.specs.BodyRows.{ends}
+use Rattle.syntax_kind.specs.declared.kind.SyntaxKind.{SyntaxKind}
+use Rattle.tree.specs.Machine.{Event, Open, Shut}
 use Rattle.error.specs.Log.{met, fault_of}
 use Rattle.error.specs.declared.Fault.{Fault}
 use Rattle.parser.specs.declared.Seen.{Seen}
-use Rattle.parser.specs.Rest.{unread, Held}
+use Rattle.parser.specs.Rest.{unread, Held, Reading}
 use Rattle.parser.proofs.Taking.{none_seen, one_seen, Tested, inline_tested, peeked}
 use Rattle.parser_run.specs.declared.ParserRun.{ParserRun}
-use Rattle.parser_run.specs.Reads.{stand, Reads, Took, Logs}
+use Rattle.parser_run.specs.Reads.{Stand, stand, Reads, Quiet, Took, Moves, Logs}
 use Rattle.parser_run.specs.Faults.{missing_fault}
 use Rattle.parser_run.specs.Expects.{kinds, either, passes, missed, expect_any, Expects}
-use Rattle.parser_run.proofs.Laws.{reads_is, reads_raise, reads_maybe, maybe_none, bump_rowed}
+use Rattle.parser_run.proofs.Laws.{reads_is, reads_wrap, reads_raise, reads_maybe, maybe_none, bump_rowed}
+
+-- What the next function asks: a leaf that is held, beside what was asked before.
+module _ {src : List ℕ} {classes : List SyntaxKind} {s : Seen} (d : Reading src classes s) where
+  pub ready : {s' : Seen} → Held src s' → Reading src classes s'
+  ready h = record { table = d.table; short = d.short; held = h }
+
+  pub ready_took : {p : Reader} {t t' : List ℕ} {st st' : ParserRun} → Took src p t st t' st' → Reading src classes st'.run.seen
+  ready_took x = ready (x.reads [] []).gives.held
+
+  pub ready_reads : {p : Reader} {t o e t' o' e' : List ℕ} {st st' : ParserRun} → Reads src p (stand t o e st) (stand t' o' e' st') → Reading src classes st'.run.seen
+  ready_reads x = ready x.gives.held
+
+  pub ready_expects : {a b : ℕ} {t e t' e' : List ℕ} {st st' : ParserRun} {f : Bool} → Expects src a b t e st t' e' st' f → Reading src classes st'.run.seen
+  ready_expects x = ready (x.flat.reads []).gives.held
+
+pub ready_moved : {src : List ℕ} {classes : List SyntaxKind} {v : Event} {t o t' o' : List ℕ} {st st' : ParserRun} → Reading src classes st.run.seen → Moves v t o st t' o' st'
+    → Reading src classes st'.run.seen
+ready_moved d x = rw x.seen d
+
+pub node_bump_is : {src : List ℕ} {k : ℕ} {t o t₁ o₁ t₂ t₃ o₃ : List ℕ} {st st₁ st₂ st₃ : ParserRun} → body_kind k ≡ false → Moves Open t o st t₁ o₁ st₁
+    → Took src bump t₁ st₁ t₂ st₂ → Moves (Shut k) t₂ o₁ st₂ t₃ o₃ st₃ → Quiet src (wrap k bump) t o st t₃ o₃ st₃
+node_bump_is {o₁ = o₁} b x y z = record { reads = λ e. reads_wrap b x (y.reads o₁ e) z }
 
 -- The error where something is missing is the definition's.
 first_kind : (a b : ℕ) → get_or (kinds a b) 0 0 ≡ a
@@ -112,6 +136,13 @@ module _ {src : List ℕ} {st : ParserRun} {x : Seen} (s : x ≡ st.run.seen) wh
 
   pub inline_bump : {b : Bool} {t t' : List ℕ} {st' : ParserRun} → b ≡ ends x.kind → b ≡ false → Took src bump t st t' st' → Took src (maybe inline bump) t st t' st'
   inline_bump d e y = record { reads = λ o l. reads_maybe inline (seen_tested src st s inline_tested (ap not (sym d ∙ e))) (y.reads o l) }
+
+  -- A reader goes on only at a leaf of kind k.
+  pub maybe_here : {k : ℕ} {p : Reader} {t o e : List ℕ} {m : Stand} → (k ≡ 0 → ⊥) → x.kind ≡ k → Reads src p (stand t o e st) m → Reads src (maybe (is k) p) (stand t o e st) m
+  maybe_here {k} z i r = reads_maybe (is k) (seen_tested src st s (is_tested k z) (eq-eqb x.kind k i)) r
+
+  pub maybe_other : {k : ℕ} (p : Reader) {t o e : List ℕ} → (k ≡ 0 → ⊥) → (x.kind ≡ k → ⊥) → Held src st.run.seen → Reads src (maybe (is k) p) (stand t o e st) (stand t o e st)
+  maybe_other {k} p z i h = maybe_none (is k) p (seen_tested src st s (is_tested k z) (ne_eqb x.kind k i)) h
 
   -- A leaf of kind k,
   pub expect_here : {k : ℕ} {t o e t' : List ℕ} {st' : ParserRun} → (k ≡ 0 → ⊥) → x.kind ≡ k → Took src bump t st t' st'

@@ -44,7 +44,11 @@ pub record Gives (src : List ℕ) (g : Got) (m m' : Stand) : Type 0 where
 pub record Reads (src : List ℕ) (p : Reader) (m m' : Stand) : Type 0 where
   pub gives : Gives src (p (unread_at src m)) m m'
 
--- The same of a function that is lent no open levels,
+-- The same of a function that is lent no error table,
+pub record Quiet (src : List ℕ) (p : Reader) (t o : List ℕ) (st : ParserRun) (t' o' : List ℕ) (st' : ParserRun) : Type 0 where
+  pub reads : (e : List ℕ) → Reads src p (stand t o e st) (stand t' o' e st')
+
+-- of one that is lent no open levels,
 pub record Flat (src : List ℕ) (p : Reader) (t e : List ℕ) (st : ParserRun) (t' e' : List ℕ) (st' : ParserRun) : Type 0 where
   pub reads : (o : List ℕ) → Reads src p (stand t o e st) (stand t' o e' st')
 

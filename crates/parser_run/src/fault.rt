@@ -1,8 +1,9 @@
 // The errors that directives meet, by their sorts (`error.rs`).
 ghost use Rattle.std.specs.Prelude.{◌≡◌, ◌≤◌, length};
 ghost use Rattle.definition.specs.Calls.{longest_source};
-ghost use Rattle.parser_run.specs.Faults.{unexpected_fault, end_fault, named_fault, missing_fault};
+ghost use Rattle.parser_run.specs.Faults.{unexpected_fault, end_fault, named_fault, named_numbers, missing_fault};
 
+use error::numbered::Numbers;
 use error::{ErrorKind, Fault};
 use parser::Seen;
 
@@ -43,6 +44,22 @@ pub fn named_error(sort: ErrorKind, start: u32, end: u32, w: Seen) -> Fault
     ensures { result ≡ named_fault sort start end w }
 {
     Fault {
+        sort,
+        start,
+        end,
+        actual: 0,
+        expected1: 0,
+        expected2: 0,
+        first: w.start,
+        past: w.end,
+    }
+}
+
+// The same of any sort, by its number.
+pub fn named_numbers(sort: u32, start: u32, end: u32, w: Seen) -> Numbers
+    ensures { result ≡ named_numbers sort start end w }
+{
+    Numbers {
         sort,
         start,
         end,

@@ -4,6 +4,7 @@
 pub mod fault;
 mod leaf;
 mod node;
+pub mod state;
 
 ghost use Rattle.parser.specs.Rest.{Held, Held-prop};
 

@@ -12,7 +12,7 @@ use error::Fault;
 use syntax_kind::number::Kind;
 
 // Whether a leaf of this kind is there, and of kind a or b.
-fn is_expected(kind: u8, a: u8, b: u8) -> bool
+pub fn is_expected(kind: u8, a: u8, b: u8) -> bool
     ensures { result ≡ passes a b kind }
 {
     kind != 0 && (kind == a || kind == b)

@@ -1,16 +1,19 @@
 -- A token of one character of several bytes.
 use Rattle.std.specs.Prelude.{if◌then◌else◌}
 use Prim.Native.Nat.{ℕ, ◌+◌, ◌<◌, ◌≤◌}
-use mathlib.Core.Path.{refl, sym, ◌∙◌, ◌≡◌}
+use mathlib.Core.Path.{refl, ap, sym, ◌∙◌, ◌≡◌}
 use mathlib.Core.Bool.{false}
 use mathlib.Core.List.{List}
 use mathlib.Core.Option.{none, some}
 use native.Mathlib.Omega.{arith}
-use lib.ListN.{get_or, length}
+use lib.ListN.{drop, get_or, length}
 use borrow.Author.Tests.{le-leb, lt-leb, ne_eqb}
 use Rattle.definition.specs.Text.{among}
 use Rattle.definition.specs.Newline.{CR, LF, char_more}
 use Rattle.definition.specs.Pre.{done, kind_of, more}
+use Rattle.theorems.specs.Walk.{walk}
+use Rattle.theorems.proofs.Lexing.Chars.{char_row}
+use Rattle.theorems.proofs.Lexing.Walk.{longer_by, walk_alone, walk_behind, zero_none}
 use Rattle.pre.specs.Scan.{from, token}
 use Rattle.pre.proofs.Froms.{from_end, from_same, from_stop}
 
@@ -41,3 +44,13 @@ module _ (s : List ℕ) (kind b at i : ℕ) (l : 192 ≤ b) (u : b < 256) (k : W
 
       pub wide_goes : get_or s i 0 ≤ 191 → Wide s kind b at (i + 1)
       wide_goes y = record { is = k.is ∙ from_same (done kind) b i s h b (char ∙ rw (le-leb 128 (get_or s i 0) z, le-leb (get_or s i 0) 191 y)) }
+
+-- Where a character ends does not hang on the kind of its token.
+done_long : (k c : ℕ) (bs : List ℕ) → walk (done k) c bs ≡ longer_by (length (char_row c bs).text) (record { kind = k; long = 0 })
+done_long k c bs =
+    let n : ℕ = length (char_row c bs).text in
+    walk_behind (done k) c bs ∙ ap (longer_by n) (walk_alone k 0 (drop n bs) (λ b r e. zero_none b))
+
+pub wide_any : (j k c i : ℕ) (s : List ℕ) → token k (from (done j) c i s).end ≡ from (done k) c i s
+unfolding from
+wide_any j k c i s = rw (done_long j c (drop i s), done_long k c (drop i s)) refl

@@ -2,9 +2,9 @@
 ghost use Rattle.std.specs.Prelude.{◌≡◌, ◌≤◌};
 ghost use Rattle.definition.specs.Pre.{done};
 ghost use Rattle.syntax_kind.specs.Number.{number};
-ghost use Rattle.pre.specs.Scan.{told, from};
+ghost use Rattle.pre.specs.Scan.{token, told, from};
 
-use crate::token::Token;
+use crate::token::{NumberedToken, Token};
 use syntax_kind::kind::SyntaxKind;
 
 // A token of one character that begins with b: the rest of the character, from `at` on.
@@ -22,4 +22,13 @@ pub fn rest_of_character(src: &[u8], at: usize, b: u8, kind: SyntaxKind) -> Toke
         kind,
         end: at.max(src.len()),
     }
+}
+
+// The same of a kind by its number, whatever the number: where the character ends does not hang on it.
+pub fn rest_of_character_number(src: &[u8], at: usize, b: u8, kind: u8) -> NumberedToken
+    requires { 192 ≤ b }
+    ensures { token result.kind result.end ≡ from (done kind) b at src.now }
+{
+    let end = rest_of_character(src, at, b, SyntaxKind::ERROR).end;
+    NumberedToken { kind, end }
 }

@@ -20,7 +20,8 @@ fn takes(b: u8, e: bool, dot: bool) -> bool
     }
 }
 
-// The rest of a digit sequence, from `at` on. The place goes on by more than one where a newline is passed over.
+// The rest of a digit sequence, from `at` on. The place goes on by more than one where a newline is passed over. One test
+// after another: a match on the kind asks first whether it is one of many others.
 #[inline(always)]
 pub fn digits(src: &[u8], table: &Classes, at: usize) -> Token
     requires { table.now ≡ class_table }
@@ -31,27 +32,26 @@ pub fn digits(src: &[u8], table: &Classes, at: usize) -> Token
     let mut dot = false;
     while i < src.len() {
         let b = src[i];
-        match class_of(table, b) {
-            SyntaxKind::DIGITS => i += 1,
-            SyntaxKind::IDENT_KW => {
-                e = matches!(b, b'e' | b'E');
-                i += 1;
+        let class = class_of(table, b);
+        if let SyntaxKind::DIGITS = class {
+            i += 1;
+        } else if let SyntaxKind::IDENT_KW = class {
+            e = matches!(b, b'e' | b'E');
+            i += 1;
+        } else if takes(b, e, dot) {
+            dot |= b == b'.';
+            i += 1;
+        } else if b == b'\\' {
+            let w = newline::newline_at(src, i + 1);
+            if w == 0 {
+                return Token {
+                    kind: SyntaxKind::BACKSLASH,
+                    end: i + 1,
+                };
             }
-            _ if takes(b, e, dot) => {
-                dot |= b == b'.';
-                i += 1;
-            }
-            _ if b == b'\\' => {
-                let w = newline::newline_at(src, i + 1);
-                if w == 0 {
-                    return Token {
-                        kind: SyntaxKind::BACKSLASH,
-                        end: i + 1,
-                    };
-                }
-                i = i + 1 + w;
-            }
-            _ => break,
+            i = i + 1 + w;
+        } else {
+            break;
         }
     }
     Token {

@@ -7,6 +7,7 @@ ghost use Rattle.syntax_kind.specs.Number.{number};
 ghost use Rattle.theorems.specs.Walk.{name_kind};
 
 use syntax_kind::kind::SyntaxKind;
+use syntax_kind::number::Kind;
 
 // How many letters `defined` has, and its first.
 const LETTERS: usize = 7;
@@ -27,6 +28,17 @@ pub fn name(src: &[u8], at: usize, end: usize, kind: SyntaxKind) -> SyntaxKind
 {
     match kind {
         SyntaxKind::IDENT_KW if is_defined(&src[at..end]) => SyntaxKind::DEFINED,
+        _ => kind,
+    }
+}
+
+// The same of a kind by its number, whatever the number: only that of an identifier may change.
+pub fn name_number(src: &[u8], at: usize, end: usize, kind: u8) -> u8
+    requires { (at < end) × (end ≤ length src.now) }
+    ensures { result ≡ name_kind kind (take (end - at) (drop at src.now)) }
+{
+    match kind {
+        Kind::IDENT_KW => name(src, at, end, SyntaxKind::IDENT_KW).into(),
         _ => kind,
     }
 }

@@ -6,3 +6,10 @@ pub struct Token {
     pub kind: SyntaxKind,
     pub end: usize,
 }
+
+// The same with the number of a kind, or any other number, in place of a kind.
+#[derive(Clone, Copy)]
+pub struct NumberedToken {
+    pub kind: u8,
+    pub end: usize,
+}

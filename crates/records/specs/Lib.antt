@@ -1,4 +1,5 @@
 pub mod Answers
+pub mod Called
 pub mod Compared
 pub mod Numbers
 pub mod Rubbish

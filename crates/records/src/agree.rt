@@ -1,11 +1,13 @@
 // Runs a recorded call, and compares its answer with the recorded one: each function answers what is behind the numbers of the answer;
 // none, where others stand.
 ghost use Rattle.std.specs.Prelude.{ℕ, List, ◌≡◌, ◌≤◌, length, map, option_copied};
-ghost use Rattle.definition.specs.Calls.{Filled, reading, looking_up};
+ghost use Rattle.definition.specs.Calls.{Filled, reading, looking_up, unescaping};
 ghost use Rattle.reading.specs.Promise.{left_by};
 ghost use Rattle.table.specs.Fills.{Fills};
+ghost use Rattle.records.specs.Rubbish.{room as Rubbish·room};
 ghost use Rattle.records.specs.Stand.{passed as Stand·passed, ConvertsBy};
-ghost use Rattle.records.specs.Answers.{FillsBy, filled_numbers, reading_numbers, looked_numbers, read_behind, lookup_behind, paste_behind, answer_behind};
+ghost use Rattle.records.specs.Answers.{FillsBy, filled_numbers, reading_numbers, looked_numbers, table_behind, read_behind, lookup_behind, paste_behind, answer_behind};
+ghost use Rattle.records.specs.Called.{Calls, numbered_behind};
 
 use crate::number::{decode, number};
 use crate::rubbish::{BYTE, MOST, NUMBER, Rooms, room};
@@ -13,7 +15,7 @@ use crate::stand::passed;
 use tables::Reading;
 use text::Counted;
 
-// The calls that are recorded.
+// The calls that are recorded,
 #[derive(Debug, Clone, Copy, PartialEq, Eq)]
 pub enum Call {
     Tokens,
@@ -23,6 +25,46 @@ pub enum Call {
     Paste,
     Read,
     Body,
+}
+
+// and their numbers.
+pub const TOKENS: u8 = 1;
+
+pub const LINES: u8 = 2;
+
+pub const UNESCAPE: u8 = 3;
+
+pub const LOOKUP: u8 = 4;
+
+pub const PASTE: u8 = 5;
+
+pub const READ: u8 = 6;
+
+pub const BODY: u8 = 7;
+
+// No call has this number.
+#[derive(Debug, Clone, Copy, PartialEq, Eq)]
+pub struct NoCall {
+    pub number: u8,
+}
+
+impl TryFrom<u8> for Call {
+    type Error = NoCall;
+
+    ghost try_from_gives = { Calls };
+
+    fn try_from(number: u8) -> Result<Self, NoCall> {
+        match number {
+            TOKENS => Ok(Call::Tokens),
+            LINES => Ok(Call::Lines),
+            UNESCAPE => Ok(Call::Unescape),
+            LOOKUP => Ok(Call::Lookup),
+            PASTE => Ok(Call::Paste),
+            READ => Ok(Call::Read),
+            BODY => Ok(Call::Body),
+            _ => Err(NoCall { number }),
+        }
+    }
 }
 
 // Fills a table by a call, and compares the outcome.
@@ -110,21 +152,52 @@ fn paste<'a>(lhs: u32, input: &[u8], s: &'a [u8]) -> Option<&'a [u8]>
     passed(&[got.refusal, got.kind], s)
 }
 
+// Fills a table of n numbers,
+fn numbers_filled<'a, F: FnOnce(&[u8], &mut [u32]) -> Counted>(
+    call: F,
+    n: u32,
+    src: &[u8],
+    s: &'a [u8],
+) -> Option<&'a [u8]>
+    requires { F.IsAlwaysCallable call }
+    ensures { (outcome : List ℕ → ℕ → Filled) → FillsBy (F.post call) outcome (λ x. x) → option_copied result ≡ table_behind outcome (Rubbish·room n) src.now s.now }
+{
+    let mut table = [NUMBER; MOST];
+    filled(call, &mut table[..room(n)], src, s)
+}
+
+// or one of the bytes of an unescaped text.
+fn unescape<'a>(n: u32, src: &[u8], s: &'a [u8]) -> Option<&'a [u8]>
+    ensures { option_copied result ≡ table_behind unescaping (Rubbish·room n) src.now s.now }
+{
+    let mut output = [BYTE; MOST];
+    filled(
+        shader_reader::shader_unescape,
+        &mut output[..room(n)],
+        src,
+        s,
+    )
+}
+
 // A call on its number and its input.
 pub fn answered<'a>(call: Call, n: u32, input: &[u8], s: &'a [u8]) -> Option<&'a [u8]>
     ensures { option_copied result ≡ answer_behind call n input.now s.now }
 {
-    let mut numbers = [NUMBER; MOST];
-    let mut bytes = [BYTE; MOST];
-    let table = &mut numbers[..room(n)];
-    let output = &mut bytes[..room(n)];
     match call {
-        Call::Tokens => filled(shader_reader::shader_tokens, table, input, s),
-        Call::Lines => filled(shader_reader::shader_line_table, table, input, s),
-        Call::Unescape => filled(shader_reader::shader_unescape, output, input, s),
+        Call::Tokens => numbers_filled(shader_reader::shader_tokens, n, input, s),
+        Call::Lines => numbers_filled(shader_reader::shader_line_table, n, input, s),
+        Call::Unescape => unescape(n, input, s),
         Call::Lookup => lookup(n, input, s),
         Call::Paste => paste(n, input, s),
         Call::Read => read_input(n, input, s),
-        Call::Body => filled(shader_reader::shader_define_body, table, input, s),
+        Call::Body => numbers_filled(shader_reader::shader_define_body, n, input, s),
     }
+}
+
+// The call of a number; none also where there is no such call.
+pub fn answered_number<'a>(call: u8, n: u32, input: &[u8], s: &'a [u8]) -> Option<&'a [u8]>
+    ensures { option_copied result ≡ numbered_behind call n input.now s.now }
+{
+    let call = Call::try_from(call).ok()?;
+    answered(call, n, input, s)
 }

@@ -6,8 +6,10 @@ mod number;
 pub mod rubbish;
 mod stand;
 
-ghost use Rattle.std.specs.Prelude.{◌≡◌, ◌<◌, length, IfSome, option_copied};
+ghost use Rattle.std.specs.Prelude.{◌≡◌, ◌<◌, ◌++◌, length, codes, Some, IfSome, option_copied};
+ghost use Rattle.std.specs.Fmt.{decimal};
 ghost use Rattle.records.specs.Compared.{behind as Compared·behind, compared};
+ghost use Rattle.records.specs.Called.{numbered_compared};
 
 use agree::Call;
 use number::{number, pair};
@@ -20,6 +22,8 @@ pub struct Differs {
 }
 
 impl fmt::Display for Differs {
+    ghost output = { λ d. Some (codes "first difference," ++ decimal d.number) };
+
     fn fmt<W: fmt::Write>(&self, f: &mut fmt::Formatter<W>) -> fmt::Result {
         let number = self.number;
         write!(f, "first difference,{number}")
@@ -48,4 +52,15 @@ pub fn compare(call: Call, s: &[u8]) -> Result<usize, Differs>
         rest = behind(call, rest).ok_or(Differs { number: records })?;
     }
     Ok(records)
+}
+
+// Compares the records of the call of a number: where there is no such call, the first differs.
+pub fn compare_number(call: u8, s: &[u8]) -> Result<usize, Differs>
+    ensures { result ≡ numbered_compared call s.now }
+{
+    match Call::try_from(call) {
+        Ok(call) => compare(call, s),
+        Err(_) if s.is_empty() => Ok(0),
+        Err(_) => Err(Differs { number: 1 }),
+    }
 }

@@ -14,25 +14,26 @@ use syntax_kind::number::Kind;
 use tree::Pen;
 use tree::level::{MOST_CONCATS, OPEN_LEVELS};
 
-// The inside of a PP_CONCAT from its ## on, x. A further ## opens a node inside, to the row's end; allowance: how many more may do so.
+// The inside of a PP_CONCAT from its ## on, x. A further ## opens a node inside, to the row's end; allowance: how many more may do so. The source is
+// lent: handed by value, it would stand once more on the stack for each ##.
 fn pp_concat(
-    source: Source,
+    source: &Source,
     table: &mut [u32],
     levels: &mut [usize; OPEN_LEVELS],
     pen: Pen,
     x: Seen,
     allowance: u32,
 ) -> BodyRow
-    requires held { Held source.src.now x }
+    requires held { Held source.now.src.now x }
     requires opened { x.kind ≡ SyntaxKind.PP_CONCAT_OP }
-    ensures { Rowed source.entry.src.now (concat_from source.entry.src.now (writer table.old levels.old pen) allowance x) table.new levels.new result }
+    ensures { Rowed source.now.src.now (concat_from source.now.src.now (writer table.old levels.old pen) allowance x) table.new levels.new result }
 {
     let mut held = pen;
     let mut y = x;
     let mut over = false;
     'paste: loop {
         let b = parser::leaf(table, held, y);
-        let p = parser::trivia::behind(source, y.end, y.angle);
+        let p = parser::trivia::behind(*source, y.end, y.angle);
         let next = p.next;
         if parser::ends_row(next.kind) {
             return BodyRow {
@@ -41,7 +42,7 @@ fn pp_concat(
                 over,
             };
         }
-        held = crate::eat(source, table, b, p);
+        held = crate::eat(*source, table, b, p);
         y = next;
         if next.kind == Kind::PP_CONCAT_OP {
             if allowance == 0 {
@@ -68,7 +69,7 @@ fn rest_of_concat(
     ensures { Rowed source.entry.src.now (pasting_shut (writer table.old levels.old pen) (unread source.entry.src.now p.first)) table.new levels.new result }
 {
     let held = crate::eat(source, table, pen, p);
-    let r = pp_concat(source, table, levels, held, p.next, MOST_CONCATS - 1);
+    let r = pp_concat(&source, table, levels, held, p.next, MOST_CONCATS - 1);
     crate::finish_row(table, levels, r, Kind::PP_CONCAT)
 }
 

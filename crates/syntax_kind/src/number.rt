@@ -1,5 +1,11 @@
-// The kinds by their numbers, as the parser holds them: 0 stands for no leaf there.
+// The kinds by their numbers, as the parser holds them: 0 stands for no leaf there, and for no kind where two are glued.
+ghost use Rattle.std.specs.Prelude.{◌≡◌};
+ghost use Rattle.definition.specs.SyntaxKind.{Kind as Numbers};
+ghost use Rattle.theorems.specs.Step.{glued_kind};
+ghost use Rattle.syntax_kind.specs.Number.{maybe};
+
 use crate::kind::SyntaxKind;
+use crate::operators;
 
 #[derive(Clone, Copy)]
 pub struct Kind {
@@ -178,4 +184,50 @@ impl Kind {
     pub const PP_LINE_BODY: u8 = SyntaxKind::PP_LINE_BODY as u8;
 
     pub const ROOT: u8 = SyntaxKind::ROOT as u8;
+}
+
+// The number of a kind that may be none.
+fn number_of(kind: Option<SyntaxKind>) -> u8
+    ensures { result ≡ maybe kind }
+{
+    match kind {
+        Some(kind) => kind.into(),
+        None => 0,
+    }
+}
+
+// The kind of an operator with `=` behind it, 0 where they do not glue.
+#[tactic(auto, using(crate::proofs::Unglued::left_unglued))]
+pub fn with_equal(a: u8) -> u8
+    ensures { result ≡ glued_kind a Numbers.EQUAL }
+{
+    match SyntaxKind::try_from(u32::from(a)) {
+        Ok(kind) => number_of(operators::with_equal(kind)),
+        Err(_) => 0,
+    }
+}
+
+// The kind of an operator twice, 0 where it does not glue with itself.
+#[tactic(auto, using(crate::proofs::Unglued::left_unglued))]
+pub fn doubled(a: u8) -> u8
+    ensures { result ≡ glued_kind a a }
+{
+    match SyntaxKind::try_from(u32::from(a)) {
+        Ok(kind) => number_of(operators::doubled(kind)),
+        Err(_) => 0,
+    }
+}
+
+// The kind of two pre-tokens together, 0 where they do not glue.
+#[tactic(auto, using(crate::proofs::Unglued::left_unglued, crate::proofs::Unglued::right_unglued))]
+pub fn glue(a: u8, b: u8) -> u8
+    ensures { result ≡ glued_kind a b }
+{
+    let Ok(lhs) = SyntaxKind::try_from(u32::from(a)) else {
+        return 0;
+    };
+    let Ok(rhs) = SyntaxKind::try_from(u32::from(b)) else {
+        return 0;
+    };
+    number_of(operators::glue(lhs, rhs))
 }

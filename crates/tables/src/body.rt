@@ -23,12 +23,19 @@ pub fn shortage(over: bool, n: usize, entries: usize) -> Result<(), Refusal>
     Ok(())
 }
 
-// A refused body: the table is cleared. One table in place of three, which no loop can hold.
+// A body refused by a number, that of a `Refusal` or any other: the table is cleared. One table in place of three, which no loop can hold.
+pub fn refused_number(entries: &mut [u32], refusal: u32) -> Counted
+    ensures { BodyRefused refusal (length entries.old) result entries.new }
+{
+    table::clear(entries);
+    Counted { refusal, count: 0 }
+}
+
+// A refused body.
 pub fn refused(entries: &mut [u32], refusal: Refusal) -> Counted
     ensures { BodyRefused (number refusal) (length entries.old) result entries.new }
 {
-    table::clear(entries);
-    Counted::from(Err(refusal))
+    refused_number(entries, refusal.into())
 }
 
 // A body that is not refused and ended at n: the table is cleared behind it. It stays lent whole; only its rest is cleared.

@@ -54,7 +54,28 @@ pub fn shortage(ends: Ends, entries: usize, errors: usize, lines: usize) -> Resu
     Ok(())
 }
 
-// A refused reading: all tables are cleared, one by one, since what is written in a loop over them is not known behind it.
+// A reading refused by a number, that of a `Refusal` or any other: all tables are cleared, one by one, since what is written in a loop
+// over them is not known behind it.
+pub fn refused_number(
+    entries: &mut [u32],
+    errors: &mut [u32],
+    lines: &mut [u32],
+    refusal: u32,
+) -> Reading
+    ensures { Refused refusal (length entries.old) (length errors.old) (length lines.old) result entries.new errors.new lines.new }
+{
+    table::clear(entries);
+    table::clear(errors);
+    table::clear(lines);
+    Reading {
+        refusal,
+        entries: 0,
+        errors: 0,
+        lines: 0,
+    }
+}
+
+// A refused reading.
 pub fn refused(
     entries: &mut [u32],
     errors: &mut [u32],
@@ -63,15 +84,7 @@ pub fn refused(
 ) -> Reading
     ensures { Refused (number refusal) (length entries.old) (length errors.old) (length lines.old) result entries.new errors.new lines.new }
 {
-    table::clear(entries);
-    table::clear(errors);
-    table::clear(lines);
-    Reading {
-        refusal: refusal.into(),
-        entries: 0,
-        errors: 0,
-        lines: 0,
-    }
+    refused_number(entries, errors, lines, refusal.into())
 }
 
 // Clears a table from n on: it stays lent whole.

@@ -53,6 +53,10 @@ settled_single low high c s a b l h = record {
 abbrev pub singles : ℕ → Bool
 singles c = (leb Kind.LBRACKET c && leb c Kind.RBRACE) || (eqb c Kind.TILDE || (leb Kind.COLON c && leb c Kind.QUESTION))
 
+pub single_colon : (c : ℕ) → Kind.COLON ≤ c → leb c Kind.QUESTION ≡ true → Single c
+unfolding every
+single_colon c l e = settled_single Kind.COLON Kind.QUESTION c refl (omega arith) (omega arith) l (leb-true _ _ e)
+
 pub single_of : (c : ℕ) → singles c ≡ true → Single c
 unfolding every
 single_of c = go (leb Kind.LBRACKET c && leb c Kind.RBRACE) (eqb c Kind.TILDE) refl refl
@@ -66,7 +70,7 @@ single_of c = go (leb Kind.LBRACKET c && leb c Kind.RBRACE) (eqb c Kind.TILDE) r
         settled_single Kind.TILDE Kind.TILDE c refl (omega arith) (omega arith) (omega arith) (omega arith)
     go false false p q e =
         let h = (and-eq-true_iff (leb Kind.COLON c) (leb c Kind.QUESTION)).0 e in
-        settled_single Kind.COLON Kind.QUESTION c refl (omega arith) (omega arith) (leb-true _ _ h.0) (leb-true _ _ h.1)
+        single_colon c (leb-true _ _ h.0) h.1
 
 -- A kind is one of a row, as an arm of a match tells.
 abbrev pub OneOf : SyntaxKind → List SyntaxKind → Type 0

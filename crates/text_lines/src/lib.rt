@@ -38,6 +38,15 @@ pub fn single(c: SyntaxKind) -> bool
     )
 }
 
+// The same of a class by its number, whatever the number.
+#[tactic(auto, using(crate::proofs::Quickly::single_of))]
+pub fn single_number(c: u8) -> bool
+    ensures { result ≡ true → Single c }
+{
+    let bracket = Kind::LBRACKET <= c && c <= Kind::RBRACE;
+    bracket || c == Kind::TILDE || (Kind::COLON <= c && c <= Kind::QUESTION)
+}
+
 // Whether nothing glues to an operator of class c, or a PERIOD, before a character of class d: only `=` and the operator itself may. Not said of `/` and
 // `<`, which take more looking.
 #[inline(always)]

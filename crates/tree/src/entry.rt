@@ -78,6 +78,22 @@ pub fn put(table: &mut [u32], n: usize, e: Entry) -> usize
     put_row(table, n, &[e.form.into(), e.kind, e.level, e.start, e.end])
 }
 
+// Writes an entry by its numbers, whatever its form, at n, if it has room, and gives the place of the next.
+#[tactic(auto, unfolding(definition::specs::Tree::entry_numbers))]
+pub fn put_numbers(
+    table: &mut [u32],
+    n: usize,
+    form: u32,
+    kind: u32,
+    level: u32,
+    start: u32,
+    end: u32,
+) -> usize
+    ensures { page table.new result ≡ enter (record { form = form; kind = kind; level = level; start = start; end = end }) (page table.old n) }
+{
+    put_row(table, n, &[form, kind, level, start, end])
+}
+
 // Puts the kind and the end of the entry at n in, if it had room.
 #[tactic(auto, unfolding(crate::specs::Machine::patched, table::specs::Row::fits))]
 pub fn patch(table: &mut [u32], n: usize, kind: u32, pos: u32)

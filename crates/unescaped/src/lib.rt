@@ -1,7 +1,7 @@
 // Unescaping a text (unescaped.rs): each backslash is dropped with the one newline after it, and all else is kept.
 #![tactic(auto)]
 
-ghost use Rattle.std.specs.Prelude.{◌≡◌, ◌≤◌, length, drop, IfOk};
+ghost use Rattle.std.specs.Prelude.{◌≡◌, ◌≤◌, ◌⊎◌, length, drop, replicate, IfOk, IfErr};
 ghost use Rattle.definition.specs.Text.{same};
 ghost use Rattle.definition.specs.Unescaped.{unescaped};
 ghost use Rattle.definition.specs.Calls.{unescaping};
@@ -114,15 +114,17 @@ fn fill(text: &[u8], output: &mut [u8]) -> usize
     n
 }
 
-// Writes the unescaped text into a cleared output, or says why the call is refused.
+// Writes the unescaped text into a cleared output, or says why the call is refused: the output is then as it came, or cleared again if it was too short.
 fn unescaped_into(text: &[u8], output: &mut [u8]) -> Result<u32, Refusal>
     ensures code { code result ≡ (unescaping text.now (length output.old)).refused }
     ensures written { IfOk result (λ n. Written (unescaped text.now) output.old n output.new) }
     ensures fits { IfOk result (λ n. n ≤ length output.new) }
+    ensures refused { IfErr result (λ r. (output.new ≡ output.old) ⊎ (output.new ≡ replicate (length output.old) 0)) }
 {
     source::check(text)?;
     let n = fill(text, output);
     if output.len() < n {
+        output.fill(0);
         return Err(Refusal::Output);
     }
     Ok(n as u32)
@@ -133,9 +135,5 @@ pub fn unescape(text: &[u8], output: &mut [u8]) -> Counted
     ensures { Fills (unescaping text.now (length output.old)) result output.new }
 {
     output.fill(0);
-    let outcome = unescaped_into(text, output);
-    if outcome.is_err() {
-        output.fill(0);
-    }
-    Counted::from(outcome)
+    Counted::from(unescaped_into(text, output))
 }

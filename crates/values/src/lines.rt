@@ -1,7 +1,9 @@
 // What the lines of a file say.
-ghost use Rattle.std.specs.Prelude.{◌≡◌, ◌%◌, ◌^◌, ◌<◌, length};
-ghost use Rattle.std.specs.Iterator.{at_most};
-ghost use Rattle.values.specs.Lines.{digit as Lines·digit, decimal};
+ghost use Rattle.std.specs.Prelude.{◌≡◌, ◌%◌, ◌^◌, ◌<◌, length, take, IfOk};
+ghost use Rattle.std.specs.Iterator.{YieldsFirst, at_most};
+ghost use Rattle.values.specs.Lines.{digit as Lines·digit, bytes as Lines·bytes, decimal, listed as Lines·listed};
+
+use std::alloc::{AllocError, Global};
 
 // A hexadecimal digit; other bytes count nothing: an Option would be taken apart at once for the same 0.
 fn digit(b: u8) -> u8
@@ -19,6 +21,8 @@ pub struct Bytes<'a>(pub &'a [u8]);
 impl<'a> Iterator for Bytes<'a> {
     type Item = u8;
 
+    ghost next_gives = { YieldsFirst (λ s. Lines·bytes s.0.now) };
+
     ghost remaining = { λ s. at_most (length s.0.now) };
 
     fn next(&mut self) -> Option<u8> {
@@ -33,6 +37,13 @@ impl<'a> Iterator for Bytes<'a> {
     }
 }
 
+// The first bytes of a line, at most so many.
+pub fn first_bytes(alloc: Global, line: &[u8], most: usize) -> Result<Vec<u8>, AllocError>
+    ensures { IfOk result (λ v. v.items ≡ take most (Lines·bytes line.now)) }
+{
+    Bytes(line).take(most).collect(alloc)
+}
+
 // A decimal number, by its last 32 bits.
 pub fn number(word: &[u8]) -> u32
     ensures { result ≡ decimal word.now % 2 ^ 32 }
@@ -41,4 +52,17 @@ pub fn number(word: &[u8]) -> u32
         0u32,
         |n, b| n.wrapping_mul(10).wrapping_add(u32::from(digit(b))),
     )
+}
+
+// What an empty word is.
+const EMPTY: u32 = 0xA5A5_A5A5;
+
+// A word of a list of numbers.
+pub fn listed(word: &[u8]) -> u32
+    ensures { result ≡ Lines·listed word.now }
+{
+    if word.is_empty() {
+        return EMPTY;
+    }
+    number(word)
 }

@@ -4,8 +4,15 @@
 
 mod lines;
 
-use lines::Bytes;
-use std::{fs, io};
+use std::fs::File;
+use std::io;
+use std::io::Read;
+
+// As much of a file is read,
+const SIZE: usize = 65_536;
+
+// and so many bytes of an expression or of the text, and numbers of the list.
+const MOST: usize = 4_096;
 
 // The files, in this order.
 const FILES: [&str; 21] = [
@@ -36,7 +43,7 @@ const FILES: [&str; 21] = [
 fn show(rt: &HostRuntime, line: &[u8], list: &[u32], text: &[u8]) -> io::Result<()>
     ensures { Unit {0} }
 {
-    let expression: Vec<u8> = Bytes(line).collect(rt.alloc())?;
+    let expression = lines::first_bytes(rt.alloc(), line, MOST)?;
     let got = condition::value(&expression, list, text);
     rt.write_all(line)?;
     println!(rt; ",{},{}", got.refusal, got.value)
@@ -46,11 +53,12 @@ fn show(rt: &HostRuntime, line: &[u8], list: &[u32], text: &[u8]) -> io::Result<
 fn show_lines(rt: &HostRuntime, text: &[u8], list: &[u8], lines: &[u8]) -> io::Result<()>
     ensures { Unit {0} }
 {
-    let named: Vec<u8> = Bytes(text).collect(rt.alloc())?;
+    let named = lines::first_bytes(rt.alloc(), text, MOST)?;
     let numbers: Vec<u32> = list
         .split(|b| *b == b' ')
         .skip(1)
-        .map(lines::number)
+        .take(MOST)
+        .map(lines::listed)
         .collect(rt.alloc())?;
     for line in lines.split_inclusive(|b| *b == b'\n') {
         let line = line.strip_suffix(b"\n").unwrap_or(line);
@@ -74,10 +82,20 @@ fn show_file(rt: &HostRuntime, s: &[u8]) -> io::Result<()>
     show_lines(rt, text, list, lines)
 }
 
+// Shows a file under its name, which is printed when it has been read.
+fn show_named(rt: &HostRuntime, name: &str) -> io::Result<()>
+    ensures { Unit {0} }
+{
+    let mut from = File::open(rt, name)?.take(SIZE as u64);
+    let mut file = Vec::with_capacity(rt.alloc(), SIZE)?;
+    from.read_to_end(&mut file)?;
+    println!(rt; "{name}")?;
+    show_file(rt, &file)
+}
+
 fn main(rt: HostRuntime) -> io::Result<()> {
     for name in FILES {
-        println!(rt; "{name}")?;
-        show_file(&rt, &fs::read(&rt, name)?)?;
+        show_named(&rt, name)?;
     }
     Ok(())
 }

@@ -8,6 +8,10 @@ pub pass_each-requires-clause-within : goal.pass_each-requires-clause-within
 unfolding quiet
 pass_each-requires-clause-within c = ((c.pass_to-steps.ensures quiet (λ b r f p. search rules)).inside c.requires).within
 
+pub returns-then-stand : goal.returns-then-stand
+unfolding quiet
+returns-then-stand c = (c.pass_to-steps.ensures quiet (λ b r f p. search rules)).inside c.requires
+
 pub returns : goal.returns
 unfolding quiet
 returns c =

@@ -79,8 +79,8 @@ loop-i-preserved-then-takes c = search (point, rules)
 pub returns-then-w-eq0 : goal.returns-then-w-eq0
 returns-then-w-eq0 c = search (bare, rules)
 
-pub overflow_add-i-in_default-2-3 : goal.overflow_add-i-in_default-2-3
-overflow_add-i-in_default-2-3 c = search (passed_fits, rules)
+pub overflow_add-i-then-b-eq92-3 : goal.overflow_add-i-then-b-eq92-3
+overflow_add-i-then-b-eq92-3 c = search (passed_fits, rules)
 
 pub loop-i-preserved : goal.loop-i-preserved
 loop-i-preserved c = search (cont, rules)
@@ -88,5 +88,5 @@ loop-i-preserved c = search (cont, rules)
 pub returns-after-loop-i : goal.returns-after-loop-i
 returns-after-loop-i c = search (ended, rules)
 
-pub returns-in_default-3 : goal.returns-in_default-3
-returns-in_default-3 c = search (stops, rules)
+pub returns-else-b-eq92 : goal.returns-else-b-eq92
+returns-else-b-eq92 c = search (stops, rules)
