@@ -12,10 +12,13 @@ const SIZE: usize = 4_096;
 fn show(rt: &HostRuntime, name: &str) -> io::Result<()>
     ensures { Unit {0} }
 {
-    let mut file = File::open(rt, name)?.take(SIZE as u64);
-    // With this room the first read asks for all of it.
-    let mut src = Vec::with_capacity(rt.alloc(), SIZE)?;
-    file.read_to_end(&mut src)?;
+    // With this room the first read asks for all of it. The file is closed before anything is printed.
+    let src = {
+        let mut file = File::open(rt, name)?.take(SIZE as u64);
+        let mut src = Vec::with_capacity(rt.alloc(), SIZE)?;
+        file.read_to_end(&mut src)?;
+        src
+    };
     println!(rt; "{name}")?;
     listed::listing(rt, &src)?;
     listed::lengths::readings(rt, &src)?;

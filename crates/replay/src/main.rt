@@ -25,9 +25,12 @@ const CALLS: [(Call, &str); 7] = [
 fn replay(rt: &HostRuntime, call: Call, name: &str) -> io::Result<()>
     ensures { Unit {0} }
 {
-    let mut from = File::open(rt, name)?.take(SIZE as u64);
-    let mut file = Vec::with_capacity(rt.alloc(), SIZE)?;
-    from.read_to_end(&mut file)?;
+    let file = {
+        let mut from = File::open(rt, name)?.take(SIZE as u64);
+        let mut file = Vec::with_capacity(rt.alloc(), SIZE)?;
+        from.read_to_end(&mut file)?;
+        file
+    };
     match records::compare(call, &file) {
         Ok(records) => println!(rt; "{name},same,{records}"),
         Err(differs) => println!(rt; "{name},{differs}"),

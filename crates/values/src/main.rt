@@ -86,9 +86,12 @@ fn show_file(rt: &HostRuntime, s: &[u8]) -> io::Result<()>
 fn show_named(rt: &HostRuntime, name: &str) -> io::Result<()>
     ensures { Unit {0} }
 {
-    let mut from = File::open(rt, name)?.take(SIZE as u64);
-    let mut file = Vec::with_capacity(rt.alloc(), SIZE)?;
-    from.read_to_end(&mut file)?;
+    let file = {
+        let mut from = File::open(rt, name)?.take(SIZE as u64);
+        let mut file = Vec::with_capacity(rt.alloc(), SIZE)?;
+        from.read_to_end(&mut file)?;
+        file
+    };
     println!(rt; "{name}")?;
     show_file(rt, &file)
 }
