@@ -1,5 +1,5 @@
 -- The loop that fills a line table: what it has written, with the line starts behind its place, is the whole table.
-use Prim.Native.Nat.{ℕ, ◌+◌, ◌≤◌, ◌<◌}
+use Prim.Native.Nat.{ℕ, ◌+◌, ◌-◌, ◌≤◌, ◌<◌, max}
 use native.Mathlib.Omega.{arith}
 use mathlib.Core.Path.{◌≡◌, refl, ap, ◌∙◌}
 use mathlib.Core.List.{List}
@@ -38,11 +38,19 @@ over src t₀ t n i k known to p = record {
 
 module _ (src t₀ t : List ℕ) (n i : ℕ) (k : Filling src t₀ t n i) where
   module _ (w : ℕ) (h : i < length src) (e : w ≡ newline_len (chars (drop i src))) where
-    pub further : i + w ≤ length src
-    further = newline_within src i w k.within e
+    -- The place behind what stands here, a newline or one byte.
+    pub further : i + max w 1 ≤ length src
+    further = omega (arith, newline_within src i w k.within e)
 
-    pub offset_fits : length src ≤ longest_source → Fits w32 (i + w)
+    pub offset_fits : length src ≤ longest_source → Fits w32 (i + max w 1)
     offset_fits l = omega (arith, further)
+
+    -- The place behind a newline alone.
+    pub newline_further : i + w ≤ length src
+    newline_further = omega (arith, further)
+
+    pub newline_fits : length src ≤ longest_source → Fits w32 (i + w)
+    newline_fits l = omega (arith, newline_further)
 
     -- No newline stands here.
     other : w ≡ 0 → Filling src t₀ t n (i + 1)
@@ -51,18 +59,36 @@ module _ (src t₀ t : List ℕ) (n i : ℕ) (k : Filling src t₀ t n i) where
     -- A newline stands here.
     pub another : (w ≡ 0 → ⊥) → (t₁ : List ℕ) → t₁ ≡ set t n (i + w) → Filling src t₀ t₁ (n + 1) (i + w)
     another z t₁ q = record {
-      within = further;
+      within = newline_further;
       few = omega (arith, k.few);
       writing = write_more _ _ n t (i + w) (ends_from (i + w) src) t₁ (rw (one_here src i w h e z) at k.writing) q;
     }
 
-    -- The quiet bytes behind one byte are passed over.
-    module _ (known : (j : ℕ) → Fits w8 (get_or src j 0)) (to : ℕ) (p : Quiet src (i + 1) to) where
-      pub other_over : w ≡ 0 → Filling src t₀ t n to
-      other_over z = over src t₀ t n (i + 1) (other z) known to p
+    -- One byte stands here, a newline or none.
+    one : w ≤ 1 → i + max w 1 ≡ i + 1
+    one l = omega arith
 
-      pub another_over : w ≡ 1 → (t₁ : List ℕ) → t₁ ≡ set t n (i + 1) → Filling src t₀ t₁ (n + 1) to
-      another_over z t₁ q = over src t₀ t₁ (n + 1) (i + 1) (rw z at (another (λ y. omega arith) t₁ (rw z q))) known to p
+    module _ (known : (j : ℕ) → Fits w8 (get_or src j 0)) (to : ℕ) where
+      -- The quiet bytes behind what stands here are passed over.
+      module _ (p : Quiet src (i + max w 1) to) where
+        pub other_over : w ≤ 0 → Filling src t₀ t n to
+        other_over z = over src t₀ t n (i + 1) (other (omega arith)) known to (rw (one (omega arith)) at p)
+
+        pub another_over : 0 < w → (t₁ : List ℕ) → t₁ ≡ set t n (i + max w 1) → Filling src t₀ t₁ (n + 1) to
+        another_over z t₁ q =
+            let m : i + max w 1 ≡ i + w = omega arith in
+            over src t₀ t₁ (n + 1) (i + w) (another (λ y. omega arith) t₁ (rw m at q)) known to (rw m at p)
+
+        pub nearer : length src - to < length src - i
+        nearer = omega (arith, p.forward, p.within, further)
+
+      -- The quiet bytes behind one byte are passed over.
+      module _ (p : Quiet src (i + 1) to) where
+        pub none_over : w ≡ 0 → Filling src t₀ t n to
+        none_over z = other_over (rw (one (omega arith)) p) (omega arith)
+
+        pub one_over : w ≡ 1 → (t₁ : List ℕ) → t₁ ≡ set t n (i + 1) → Filling src t₀ t₁ (n + 1) to
+        one_over z t₁ q = let m = one (omega arith) in another_over (rw m p) (omega arith) t₁ (rw m q)
 
   pub done : (entry : List ℕ) → t₀ ≡ set entry 0 0 → length src ≤ i → Written (line_starts src) entry n t
   unfolding line_starts
